@@ -1,0 +1,3 @@
+mod NameLemmas
+pub mod SizeLemmas
+pub mod SpaceLemmas

@@ -1,0 +1,2 @@
+mod Gift
+pub mod Calls

@@ -1,0 +1,14 @@
+pub mod Places
+pub mod State
+pub mod Room
+pub mod Rules
+pub mod Duties
+pub mod Effect
+pub mod History
+pub mod Examples
+pub mod Locality
+pub mod BestFit
+pub mod FreeRuns
+pub mod IdleRuns
+pub mod Cycles
+pub mod Rows

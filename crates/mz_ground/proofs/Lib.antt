@@ -1,0 +1,10 @@
+pub mod Lists
+pub mod Tickets
+pub mod Plots
+pub mod Quanta
+pub mod Walks
+pub mod Lodging
+pub mod Spans
+pub mod Marked
+pub mod Grounds
+pub mod Crosses

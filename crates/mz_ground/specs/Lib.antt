@@ -1,0 +1,7 @@
+pub mod Site
+pub mod Place
+pub mod Marks
+pub mod Views
+pub mod Ownership
+pub mod Parts
+pub mod Held

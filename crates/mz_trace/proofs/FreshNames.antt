@@ -1,0 +1,139 @@
+-- Names that are given once each are new ones, one after the other.
+use Rattle.std.proofs.Common.{◌≡◌, ℕ, ◌+◌, ◌≤◌, Bool, true, false, List, [], ◌∷◌, cond, arith, refl, sym, ap, subst, ◌∙◌, inl, inr, Option, Some, None}
+use Rattle.std.specs.Prelude.{not, ◌||◌, count_by}
+use Rattle.std.specs.List.{list_any}
+use Rattle.std.specs.Str.{bytes_eq}
+use Rattle.std.specs.Ordering.{nat_cmp, is_eq, match_ordering}
+use Rattle.std.specs.declared.cmp.Ordering.{Ordering}
+use Rattle.std.specs.declared.cmp.Ordering.TheVariants.{Less, Equal, Greater}
+use Rattle.std.specs.Cmp.Lexicographic.{slice_cmp, nat_list_eq_equiv}
+use Rattle.std.specs.BTreeMap.{is_at}
+use Rattle.std.proofs.lemmas.Bool.{cases_Bool, and_from}
+use Rattle.std.proofs.lemmas.List.Sums.{sum_by-cons}
+use Rattle.std.proofs.lemmas.Slice.Eq.{bytes_eq-Decides}
+use Rattle.std.proofs.lemmas.Map.Text.{is_eq-slice_cmp}
+use Rattle.mz_trace.specs.declared.command.Command.{Command}
+use Rattle.mz_trace.specs.declared.command.Command.TheVariants.{Give}
+use Rattle.mz_trace.specs.Lines.{command_gives}
+use Rattle.mz_trace.specs.RunNames.{has_name, with_name}
+use Rattle.mz_trace.specs.RunLines.{given_by}
+use Rattle.mz_trace.proofs.RunReads.{given_after, is_fresh, all_fresh}
+
+-- a name that is neither among names nor the one that comes in isn't among them afterwards
+or_parts : (a b : Bool) → (a || b) ≡ false → (a ≡ false) × (b ≡ false)
+or_parts true b h = absurd (cc)
+or_parts false b h = (refl, h)
+
+pick :
+    (o : Ordering) (p : List ℕ → Bool) (k x : List ℕ) (xs more : List (List ℕ)) → p k ≡ false → p x ≡ false → list_any p xs ≡ false → list_any p more ≡ false
+    → list_any p (match_ordering o (k ∷ x ∷ xs) (x ∷ xs) (x ∷ more)) ≡ false
+pick Less p k x xs more hk hx hxs hm = rw (hk, hx, hxs) refl
+pick Equal p k x xs more hk hx hxs hm = rw (hx, hxs) refl
+pick Greater p k x xs more hk hx hxs hm = rw (hx, hm) refl
+
+not_among : (q k : List ℕ) (ks : List (List ℕ)) → is_at (slice_cmp nat_cmp q) k ≡ false → has_name ks q ≡ false → has_name (with_name ks k) q ≡ false
+not_among q k [] hk h = rw hk refl
+not_among q k (x ∷ xs) hk h =
+    let parts = or_parts (is_at (slice_cmp nat_cmp q) x) (has_name xs q) h in
+    pick (slice_cmp nat_cmp k x) (is_at (slice_cmp nat_cmp q)) k x xs (with_name xs k) hk parts.0 parts.1 (not_among q k xs hk parts.1)
+
+-- the command gives a block under this name
+abbrev pub is_given : List ℕ → Option (List ℕ) → Bool
+is_given base None = false
+is_given base (Some given) = bytes_eq given base
+
+pub command_gives-given_by : (c : Command) (base : List ℕ) → command_gives base c ≡ is_given base (given_by c)
+command_gives-given_by (Give name to given) base = refl
+command_gives-given_by _ base = refl
+
+at_most_one : (t : Bool) → cond t 1 0 ≤ 1
+at_most_one true = omega arith
+at_most_one false = omega arith
+
+-- how often a name is among names and given by commands
+abbrev pub counted : List (List ℕ) → List ℕ → ℕ → ℕ
+counted given base n = cond (has_name given base) 1 0 + n
+
+names_once :
+    (t u : Bool) (n : ℕ) → cond t 1 0 + (cond true 1 0 + n) ≤ 1 → cond u 1 0 + n ≤ 1
+names_once true u n h = absurd (omega arith)
+names_once false u n h = omega (arith, at_most_one u)
+
+is_new : (t : Bool) (n : ℕ) → cond t 1 0 + (cond true 1 0 + n) ≤ 1 → not t ≡ true
+is_new true n h = absurd (omega arith)
+is_new false n h = refl
+
+named_before : (u : Bool) (n : ℕ) → cond true 1 0 + n ≤ 1 → cond u 1 0 + n ≤ 1
+named_before u n h = omega (arith, at_most_one u)
+
+fresh_step :
+    (given : List (List ℕ)) (o : Option (List ℕ)) (n : List ℕ → ℕ) → ((base : List ℕ) → counted given base (cond (is_given base o) 1 0 + n base) ≤ 1)
+    → (is_fresh given o ≡ true) × ((base : List ℕ) → counted (given_after given o) base (n base) ≤ 1)
+fresh_step given None n h = (refl, λ base. omega (arith, h base))
+fresh_step given (Some new) n h = (
+  is_new (has_name given new) (n new) (let same : bytes_eq new new ≡ true = (bytes_eq-Decides new new).1 refl in rw same at (h new)),
+  λ base. elim (cases_Bool (bytes_eq new base)) [
+    | inl same ↦ names_once (has_name given base) (has_name (with_name given new) base) (n base) (rw same at (h base))
+    | inr other ↦ elim (cases_Bool (has_name given base)) [
+      | inl before ↦ named_before (has_name (with_name given new) base) (n base) (let once : 1 + (0 + n base) ≤ 1 = rw (other, before) at (h base) in omega arith)
+      | inr never ↦
+          let still : has_name (with_name given new) base ≡ false = not_among base new given (is_eq-slice_cmp base new ∙ nat_list_eq_equiv.symm base new ∙ other) never in
+          let once : 0 + (0 + n base) ≤ 1 = rw (other, never) at (h base) in
+          rw still (omega arith)
+    ]
+  ],
+)
+
+pub all_fresh-counted :
+    (given : List (List ℕ)) (cs : List Command) → ((base : List ℕ) → counted given base (count_by (command_gives base) cs) ≤ 1) → all_fresh given cs ≡ true
+all_fresh-counted given [] h = refl
+all_fresh-counted given (c ∷ cs) h =
+    let step = fresh_step given (given_by c) (λ base. count_by (command_gives base) cs)
+    (λ base. let P : ℕ → Type 0 = λ m. counted given base m ≤ 1 in
+    subst P (sum_by-cons (λ x. cond (command_gives base x) 1 0) c cs ∙ ap (λ (t : Bool). cond t 1 0 + count_by (command_gives base) cs) (command_gives-given_by c base)) (h base)) in
+    and_from _ _ step.0 (all_fresh-counted (given_after given (given_by c)) cs step.1)
+
+-- names stay, and the one that comes in is there
+or_true : (a b : Bool) → b ≡ true → (a || b) ≡ true
+or_true true b h = refl
+or_true false b h = h
+
+pick_new :
+    (o : Ordering) (p : List ℕ → Bool) (k x : List ℕ) (xs more : List (List ℕ)) → p x ≡ is_eq o → p k ≡ true → list_any p more ≡ true
+    → list_any p (match_ordering o (k ∷ x ∷ xs) (x ∷ xs) (x ∷ more)) ≡ true
+pick_new Less p k x xs more e hk hm = rw hk refl
+pick_new Equal p k x xs more e hk hm = rw e refl
+pick_new Greater p k x xs more e hk hm = or_true (p x) (list_any p more) hm
+
+among_new : (k : List ℕ) (ks : List (List ℕ)) → has_name (with_name ks k) k ≡ true
+among_new k [] = let at : is_at (slice_cmp nat_cmp k) k ≡ true = is_eq-slice_cmp k k ∙ (bytes_eq-Decides k k).1 refl in rw at refl
+among_new k (x ∷ xs) =
+    let at : is_at (slice_cmp nat_cmp k) k ≡ true = is_eq-slice_cmp k k ∙ (bytes_eq-Decides k k).1 refl in
+    pick_new (slice_cmp nat_cmp k x) (is_at (slice_cmp nat_cmp k)) k x xs (with_name xs k) refl at (among_new k xs)
+
+pick_old :
+    (o : Ordering) (p : List ℕ → Bool) (k x : List ℕ) (xs more : List (List ℕ)) → (p x || list_any p xs) ≡ true → (list_any p xs ≡ true → list_any p more ≡ true)
+    → list_any p (match_ordering o (k ∷ x ∷ xs) (x ∷ xs) (x ∷ more)) ≡ true
+pick_old Less p k x xs more h k2 = or_true (p k) _ h
+pick_old Equal p k x xs more h k2 = h
+pick_old Greater p k x xs more h k2 = or_more (p x) (list_any p xs) (list_any p more) h k2
+  where
+    or_more : (a b c : Bool) → (a || b) ≡ true → (b ≡ true → c ≡ true) → (a || c) ≡ true
+    or_more true b c h k = refl
+    or_more false b c h k = k h
+
+among_old : (q k : List ℕ) (ks : List (List ℕ)) → has_name ks q ≡ true → has_name (with_name ks k) q ≡ true
+among_old q k [] h = absurd (cc)
+among_old q k (x ∷ xs) h = pick_old (slice_cmp nat_cmp k x) (is_at (slice_cmp nat_cmp q)) k x xs (with_name xs k) h (λ e. among_old q k xs e)
+
+never_before : (a b : Bool) → (a ≡ true → b ≡ true) → b ≡ false → a ≡ false
+never_before true b h e = sym (h refl) ∙ e
+never_before false b h e = refl
+
+pub not_before : (q k : List ℕ) (ks : List (List ℕ)) → has_name (with_name ks k) q ≡ false → has_name ks q ≡ false
+not_before q k ks h = never_before (has_name ks q) (has_name (with_name ks k) q) (among_old q k ks) h
+
+pub not_the_new : (q k : List ℕ) (ks : List (List ℕ)) → has_name (with_name ks k) q ≡ false → bytes_eq k q ≡ false
+not_the_new q k ks h =
+    never_before (bytes_eq k q) (has_name (with_name ks k) q)
+    (λ e. let P : List ℕ → Type 0 = λ v. has_name (with_name ks k) v ≡ true in subst P ((bytes_eq-Decides k q).0 e) (among_new k ks)) h

@@ -1,0 +1,213 @@
+-- Names that are read from words: a word of the form of a name is how the name that is read from it is written.
+use Rattle.std.proofs.Common.{◌≡◌, ℕ, suc, ◌+◌, ◌<◌, ◌≤◌, Bool, true, false, List, [], ◌∷◌, ◌++◌, length, take, drop, eqb, ltb, leb, arith, refl, sym, ap, ◌∙◌, inl, inr, Option, Some, None, codes}
+use Rattle.std.specs.Prelude.{◌&&◌, ◌||◌, is_some}
+use Rattle.std.specs.List.{position_or_len}
+use Rattle.std.specs.Str.{bytes_eq}
+use Rattle.std.proofs.lemmas.Bool.{cases_Bool, and_parts, and_from, cond-true, cond-false, lt-ltb, ltb-true, ltb-false, eqb-true, both_ways, leb-true}
+use Rattle.std.proofs.lemmas.Slice.Eq.{bytes_eq-Decides}
+use Rattle.std.proofs.lemmas.List.{length-drop, nil_from_length}
+use Rattle.mz_base.specs.Names.{is_base_name, is_null}
+use Rattle.mz_trace.specs.declared.name.BatchName.{BatchName}
+use Rattle.mz_trace.specs.declared.name.GivenName.{GivenName}
+use Rattle.mz_trace.specs.declared.name.Name.{Name}
+use Rattle.mz_trace.specs.declared.name.Name.TheVariants as name
+use Rattle.mz_trace.specs.declared.command.Names.{Names}
+use Rattle.mz_trace.specs.declared.command.Names.TheVariants.{Fresh, Renamed, KeptBatch, KeptGiven}
+use Rattle.mz_trace.specs.Numbers.{value_of, is_number, is_from, is_number_from, number_of}
+use Rattle.mz_trace.specs.Names.{is_name, is_batch_name, is_given_name, name_word, batch_word, given_word}
+use Rattle.mz_trace.specs.Lines.{old_word, new_word, name_fits, names_fit}
+use Rattle.mz_trace.specs.Reading.{number_from, base_of, batch_of, given_of, name_of, names_of}
+use Rattle.mz_trace.proofs.NumberLemmas.{decimal-value_of}
+use Rattle.mz_trace.proofs.NameLemmas.{is_some-batch_of}
+
+-- numbers within limits
+pub number_of_number : (w : List ℕ) → is_number w ≡ true → number_of w ≡ Some (value_of w)
+number_of_number w e = cond-true (is_number w) (Some (value_of w)) None e
+
+pub number_from_number : (least most : ℕ) (w : List ℕ) → is_number w ≡ true → is_from least most (value_of w) ≡ true → number_from least most w ≡ Some (value_of w)
+number_from_number least most w e limits = rw e (cond-true _ _ _ limits)
+
+pub base_of_base : (w : List ℕ) → is_base_name w ≡ true → base_of w ≡ Some w
+base_of_base w e = cond-true (is_base_name w) (Some w) None e
+
+-- the place of the first dot
+abbrev pub at_dot : List ℕ → ℕ
+at_dot w = position_or_len (λ c. eqb c 46) w
+
+pub at_dot-cons : (b : ℕ) (bs : List ℕ) → eqb b 46 ≡ false → at_dot (b ∷ bs) ≡ suc (at_dot bs)
+at_dot-cons b bs e = rw e (let s : 1 + at_dot bs ≡ suc (at_dot bs) = omega arith in s)
+
+dot_parts : (w : List ℕ) → at_dot w < length w → take (at_dot w) w ++ 46 ∷ drop (at_dot w + 1) w ≡ w
+dot_parts [] lt = absurd (omega arith)
+dot_parts (b ∷ bs) lt =
+    elim (cases_Bool (eqb b 46)) [
+      | inl e ↦ rw e (ap (λ (x : ℕ). x ∷ bs) (sym (eqb-true b 46 e)))
+      | inr e ↦
+          let further = at_dot-cons b bs e in
+          let shorter : at_dot bs < length bs = omega (arith, further) in
+          let s : suc (at_dot bs) + 1 ≡ suc (at_dot bs + 1) = omega arith in
+          rw further (rw s (ap (λ (x : List ℕ). b ∷ x) (dot_parts bs shorter)))
+    ]
+
+abbrev Past : List ℕ → Type 0
+Past w = drop (at_dot w + 1) w ≡ []
+
+no_number : (w : List ℕ) → w ≡ [] → is_number w ≡ true → ⊥
+no_number w e num = both_ways (is_number w) (rw e refl) num
+
+has_dot : (w : List ℕ) → is_number (drop (at_dot w + 1) w) ≡ true → at_dot w < length w
+has_dot w num =
+    elim (cases_Bool (ltb (at_dot w) (length w))) [
+      | inl e ↦ ltb-true _ _ e
+      | inr e ↦
+          let le : length w ≤ at_dot w = ltb-false _ _ e in
+          absurd (no_number (drop (at_dot w + 1) w) (nil_from_length _ (omega (arith, length-drop (at_dot w + 1) w))) num)
+    ]
+
+-- the name of a block of a batch
+pub record IsBatch (w : List ℕ) (b : BatchName) : Type 0 where
+  pub read : batch_of w ≡ Some b
+  pub word : batch_word b ≡ w
+  pub fits : name_fits (name.Batch b) ≡ true
+
+abbrev batch_name : List ℕ → ℕ → BatchName
+batch_name base index = record { base = base; index = index }
+
+below_4096 : (n : ℕ) → is_from 0 4095 n ≡ true → ltb n 4096 ≡ true
+below_4096 n e = lt-ltb n 4096 (let most = leb-true n 4095 (and_parts (leb 0 n) (leb n 4095) e).1 in omega arith)
+
+pub batch_read : (w : List ℕ) → is_batch_name w ≡ true → (b : BatchName) × IsBatch w b
+batch_read w e =
+    let p = at_dot w in
+    let parts = and_parts (is_base_name (take p w)) (is_number_from 0 4095 (drop (p + 1) w)) e in
+    let number = and_parts (is_number (drop (p + 1) w)) (is_from 0 4095 (value_of (drop (p + 1) w))) parts.1 in
+    let dot : p < length w = has_dot w number.0 in
+    let found : ltb p (length w) ≡ true = lt-ltb _ _ dot in
+    let index = number_from_number 0 4095 (drop (p + 1) w) number.0 number.1 in (
+      batch_name (take p w) (value_of (drop (p + 1) w)),
+      record {
+        read = rw found (rw (base_of_base (take p w) parts.0) (rw index refl));
+        word = rw (decimal-value_of (drop (p + 1) w) number.0) (dot_parts w dot);
+        fits = and_from _ _ parts.0 (below_4096 _ number.1);
+      },
+    )
+
+-- a given name
+pub record IsGiven (w : List ℕ) (g : GivenName) : Type 0 where
+  pub read : given_of w ≡ Some g
+  pub word : given_word g ≡ w
+  pub fits : is_base_name g.base ≡ true
+
+abbrev given_name : List ℕ → GivenName
+given_name base = record { base = base }
+
+pub given_read : (w : List ℕ) → is_given_name w ≡ true → (g : GivenName) × IsGiven w g
+given_read [] e = absurd cc
+given_read (c ∷ cs) e =
+    let parts = and_parts (eqb c 64) (is_base_name cs) e in
+    (given_name cs, record { read = rw parts.0 (rw (base_of_base cs parts.1) refl); word = ap (λ (x : ℕ). x ∷ cs) (sym (eqb-true c 64 parts.0)); fits = parts.1 })
+
+-- a name of any form
+pub record IsRead (w : List ℕ) (n : Name) : Type 0 where
+  pub read : name_of w ≡ Some n
+  pub word : name_word n ≡ w
+  pub fits : name_fits n ≡ true
+
+none_of : {A : Type 0} (o : Option A) → is_some o ≡ false → o ≡ None
+none_of None e = refl
+none_of (Some x) e = absurd cc
+
+pub batch_none : (w : List ℕ) → is_batch_name w ≡ false → batch_of w ≡ None
+batch_none w e = none_of (batch_of w) (is_some-batch_of w ∙ e)
+
+pub base_none : (w : List ℕ) → is_base_name w ≡ false → base_of w ≡ None
+base_none w e = cond-false (is_base_name w) (Some w) None e
+
+longer_read : (w : List ℕ) → is_base_name w ≡ false → (is_batch_name w || is_given_name w) ≡ true → (n : Name) × IsRead w n
+longer_read w plain e =
+    elim (cases_Bool (is_batch_name w)) [
+      | inl so ↦
+          let b = batch_read w so in
+          (name.Batch b.0, record { read = rw (base_none w plain) (rw b.1.read refl); word = b.1.word; fits = b.1.fits })
+      | inr nay ↦
+          let given : is_given_name w ≡ true = rw nay at e in
+          let g = given_read w given in
+          (name.Given g.0, record { read = rw (base_none w plain) (rw (batch_none w nay) (rw g.1.read refl)); word = g.1.word; fits = g.1.fits })
+    ]
+
+second_of : (a b : Bool) → a ≡ false → (a || b) ≡ true → b ≡ true
+second_of true b nay e = absurd cc
+second_of false b nay e = e
+
+either_longer : (b1 b2 b3 : Bool) → b1 ≡ false → (b1 || b2 || b3) ≡ true → (b2 || b3) ≡ true
+either_longer true b2 b3 plain e = absurd cc
+either_longer false b2 b3 plain e = e
+
+pub name_read : (w : List ℕ) → is_name w ≡ true → (n : Name) × IsRead w n
+name_read w e =
+    elim (cases_Bool (is_base_name w)) [
+      | inl so ↦ (name.Base w, record { read = rw (base_of_base w so) refl; word = refl; fits = so })
+      | inr nay ↦ longer_read w nay (either_longer (is_base_name w) (is_batch_name w) (is_given_name w) nay e)
+    ]
+
+-- the names of a `realloc`
+pub record AreRead (old new : List ℕ) (ns : Names) : Type 0 where
+  pub read : names_of old new ≡ Some ns
+  pub old_is : old_word ns ≡ old
+  pub new_is : new_word ns ≡ new
+  pub fits : names_fit ns ≡ true
+
+pub null_is : (w : List ℕ) → is_null w ≡ true → codes "null" ≡ w
+null_is w e = sym ((bytes_eq-Decides w (codes "null")).0 e)
+
+null_no_name : (w : List ℕ) → is_null w ≡ true → is_name w ≡ true → ⊥
+null_no_name w e n = let same : is_name (codes "null") ≡ true = rw (← null_is w e) at n in absurd cc
+
+fresh_read : (old new : List ℕ) → is_null old ≡ true → is_base_name new ≡ true → (ns : Names) × AreRead old new ns
+fresh_read old new e base =
+    (Fresh new, record { read = rw e (rw (base_of_base new base) refl); old_is = null_is old e; new_is = refl; fits = base })
+
+renamed_read : (old new : List ℕ) → is_null old ≡ false → is_name old ≡ true → is_base_name new ≡ true → (ns : Names) × AreRead old new ns
+renamed_read old new some named base =
+    let n = name_read old named in (
+      Renamed n.0 new,
+      record {
+        read = rw some (rw (base_of_base new base) (rw n.1.read refl));
+        old_is = n.1.word;
+        new_is = refl;
+        fits = and_from _ _ n.1.fits base;
+      },
+    )
+
+kept_read : (old new : List ℕ) → is_null old ≡ false → is_base_name new ≡ false → bytes_eq old new ≡ true → old ≡ new → (is_batch_name old || is_given_name old) ≡ true → (ns : Names) × AreRead old new ns
+kept_read old new some plain equal same e =
+    elim (cases_Bool (is_batch_name old)) [
+      | inl so ↦
+          let b = batch_read old so in
+          (KeptBatch b.0, record { read = rw some (rw (base_none new plain) (rw equal (rw b.1.read refl))); old_is = b.1.word; new_is = b.1.word ∙ same; fits = b.1.fits })
+      | inr nay ↦
+          let given : is_given_name old ≡ true = rw nay at e in
+          let g = given_read old given in
+          (KeptGiven g.0, record { read = rw some (rw (base_none new plain) (rw equal (rw (batch_none old nay) (rw g.1.read refl)))); old_is = g.1.word; new_is = g.1.word ∙ same; fits = g.1.fits })
+    ]
+
+pub names_read :
+    (old new : List ℕ) → (is_null old || is_name old) ≡ true → (is_base_name new || is_name new && bytes_eq new old) ≡ true
+    → (ns : Names) × AreRead old new ns
+names_read old new o n =
+    elim (cases_Bool (is_base_name new)) [
+      | inl base ↦ elim (cases_Bool (is_null old)) [
+        | inl null ↦ fresh_read old new null base
+        | inr some ↦ renamed_read old new some (second_of (is_null old) (is_name old) some o) base
+      ]
+      | inr plain ↦
+          let both = and_parts (is_name new) (bytes_eq new old) (second_of (is_base_name new) (is_name new && bytes_eq new old) plain n) in
+          let same : new ≡ old = (bytes_eq-Decides new old).0 both.1 in
+          elim (cases_Bool (is_null old)) [
+            | inl null ↦ absurd (null_no_name old null (rw same at both.0))
+            | inr some ↦
+                let named : is_name old ≡ true = rw same at both.0 in
+                kept_read old new some plain ((bytes_eq-Decides old new).1 (sym same)) (sym same)
+                (either_longer (is_base_name old) (is_batch_name old) (is_given_name old) (rw same at plain) named)
+          ]
+    ]

@@ -1,0 +1,165 @@
+-- A text of a run is read as that run and its tail, and so it determines them.
+use Rattle.std.proofs.Common.{◌≡◌, ℕ, ◌+◌, ◌<◌, ◌≤◌, ◌^◌, Bool, true, List, [], ◌∷◌, ◌++◌, map, length, eqb, arith, refl, sym, ap, ◌∙◌, Option, codes}
+use Rattle.std.specs.List.{list_all, flat_map}
+use Rattle.std.specs.Fmt.{decimal}
+use Rattle.std.proofs.lemmas.Bool.{and_parts, and_from, lt-ltb, eqb-true}
+use Rattle.std.proofs.lemmas.List.{append_assoc, append-nil, map-append}
+use Rattle.std.proofs.lemmas.List.Folds.{list_all-append}
+use Rattle.mz_base.specs.declared.profile.Profile.{Profile}
+use Rattle.mz_trace.specs.declared.answer.Answer.{Answer}
+use Rattle.mz_trace.specs.declared.run.Step.{Step}
+use Rattle.mz_trace.specs.declared.run.StartRecord.{StartRecord}
+use Rattle.mz_trace.specs.declared.run.CallRecord.{CallRecord}
+use Rattle.mz_trace.specs.declared.run.RunRound.{RunRound}
+use Rattle.mz_trace.specs.declared.run.Run.{Run}
+use Rattle.mz_trace.specs.declared.run_reader.Read.{Read}
+use Rattle.mz_trace.specs.declared.tail.Figures.{Figures}
+use Rattle.mz_trace.specs.Lines.{is_u64, start_fits, start_words, command_fits, command_words}
+use Rattle.mz_trace.specs.Faults.{Cut, cuts}
+use Rattle.mz_trace.specs.Spaces.{profile_in}
+use Rattle.mz_trace.specs.TailTexts.{listed_words, statistics_lines, tail_lines, tail_text}
+use Rattle.mz_trace.specs.RunTexts.{step_words, answer_words, record_lines, start_record_lines, call_record_lines, section_lines, sections_from, run_round_lines, run_lines, run_text}
+use Rattle.mz_trace.specs.RunForms.{step_fits, answer_fits, start_record_fits, call_record_fits, round_fits, listed_fits, IsRun, IsTail, IsRunText}
+use Rattle.mz_trace.specs.RunLines.{blank_reader}
+use Rattle.mz_trace.specs.RunParsing.{Outcome, good, bad, and_then, or_bad, Rounds, after_line, rounds_from, RunAndTail, rounds_and_tail, behind_profile, from_first, reading_of}
+use Rattle.mz_trace.proofs.WordsAgain.{and_three}
+use Rattle.mz_trace.proofs.RunWordsAgain.{and_four}
+use Rattle.mz_trace.proofs.SolidWords.{solid, number_solid, step_solid, answer_solid, start_solid, command_solid, listed_solid}
+use Rattle.mz_trace.proofs.LinesAgain.{line_of, words_again, are_solid, cuts-lines}
+use Rattle.mz_trace.proofs.RunReads.{rounds_from-reads, all_fresh}
+use Rattle.mz_trace.proofs.RoundsRead.{all_rounds, Ends, run_commands}
+use Rattle.mz_trace.proofs.FreshNames.{all_fresh-counted}
+use Rattle.mz_trace.proofs.TailReads.{profile_read, space_solid, tail_read}
+
+-- the lines of a run are solid
+all_over : {A B : Type 0} (q : A → Bool) (p : B → Bool) (f : A → List B) (xs : List A) → ((x : A) → q x ≡ true → list_all p (f x) ≡ true) → list_all q xs ≡ true → list_all p (flat_map f xs) ≡ true
+all_over q p f [] each h = refl
+all_over q p f (x ∷ xs) each h =
+    let parts = and_parts (q x) (list_all q xs) h in
+    list_all-append p (f x) (flat_map f xs) ∙ and_from _ _ (each x parts.0) (all_over q p f xs each parts.1)
+
+all_mapped : {A B : Type 0} (q : A → Bool) (p : B → Bool) (f : A → B) (xs : List A) → ((x : A) → q x ≡ true → p (f x) ≡ true) → list_all q xs ≡ true → list_all p (map f xs) ≡ true
+all_mapped q p f [] each h = refl
+all_mapped q p f (x ∷ xs) each h = let parts = and_parts (q x) (list_all q xs) h in and_from _ _ (each x parts.0) (all_mapped q p f xs each parts.1)
+
+record_solid :
+    (words : List (List ℕ)) (steps : List Step) (a : Answer) → are_solid words ≡ true → list_all step_fits steps ≡ true → answer_fits a ≡ true
+    → list_all are_solid (record_lines words steps a) ≡ true
+record_solid words steps a h k m =
+    and_from _ _ h
+    (list_all-append are_solid (map step_words steps) ((codes "=" ∷ answer_words a) ∷ [])
+    ∙ and_from _ _ (all_mapped step_fits are_solid step_words steps step_solid k) (and_from _ _ (answer_solid a m) refl))
+
+start_record_solid : (d : StartRecord) → start_record_fits d ≡ true → list_all are_solid (start_record_lines d) ≡ true
+start_record_solid d h =
+    let p = and_three (start_fits d.line) (list_all step_fits d.steps) (answer_fits d.answer) h in
+    record_solid (start_words d.line) d.steps d.answer (start_solid d.line p.0) p.1 p.2
+
+call_record_solid : (callers : ℕ) → callers < 2 ^ 64 → (d : CallRecord) → call_record_fits callers d ≡ true → list_all are_solid (call_record_lines d) ≡ true
+call_record_solid callers small d h =
+    let p = and_three (command_fits callers d.command) (list_all step_fits d.steps) (answer_fits d.answer) h in
+    record_solid (command_words d.command) d.steps d.answer (command_solid callers d.command small p.0) p.1 p.2
+
+abbrev all_fit : ℕ → List (List CallRecord) → Bool
+all_fit callers lists = list_all (λ calls. list_all (call_record_fits callers) calls) lists
+
+sections_solid :
+    (callers c : ℕ) (lists : List (List CallRecord)) → callers < 2 ^ 64 → c + length lists ≤ callers → all_fit callers lists ≡ true
+    → list_all are_solid (sections_from c lists) ≡ true
+sections_solid callers c [] small le h = refl
+sections_solid callers c (x ∷ xs) small le h =
+    let p = and_parts (list_all (call_record_fits callers) x) (all_fit callers xs) h in
+    let number : solid (decimal c) ≡ true = number_solid c (lt-ltb _ _ (omega arith)) in
+    list_all-append are_solid (section_lines c x) (sections_from (c + 1) xs)
+    ∙ and_from _ _ (and_from _ _ (and_from _ _ number refl) (all_over (call_record_fits callers) are_solid call_record_lines x (call_record_solid callers small) p.0))
+    (sections_solid callers (c + 1) xs small (omega arith) p.1)
+
+round_solid : (callers : ℕ) → callers < 2 ^ 64 → (rd : RunRound) → round_fits callers rd ≡ true → list_all are_solid (run_round_lines rd) ≡ true
+round_solid callers small rd h =
+    let p = and_three (list_all start_record_fits rd.starts) (all_fit callers rd.callers) (eqb (length rd.callers) callers) h in
+    let count : length rd.callers ≡ callers = eqb-true (length rd.callers) callers p.2 in
+    list_all-append are_solid (flat_map start_record_lines rd.starts) (sections_from 0 rd.callers)
+    ∙ and_from _ _ (all_over start_record_fits are_solid start_record_lines rd.starts start_record_solid p.0) (sections_solid callers 0 rd.callers small (omega (arith, count)) p.1)
+
+rounds_solid : (callers : ℕ) (rs : List RunRound) → callers < 2 ^ 64 → list_all (round_fits callers) rs ≡ true → list_all are_solid (flat_map run_round_lines rs) ≡ true
+rounds_solid callers rs small h = all_over (round_fits callers) are_solid run_round_lines rs (round_solid callers small) h
+
+few_callers : (r : Run) → IsRun r → r.profile.callers < 2 ^ 64
+few_callers r h = omega (arith, h.limits.callers.1)
+
+run_solid : (r : Run) → IsRun r → list_all are_solid (run_lines r) ≡ true
+run_solid r h =
+    and_from _ _ (space_solid r.profile h.limits)
+    (list_all-append are_solid (flat_map run_round_lines r.rounds) ((codes "end" ∷ []) ∷ [])
+    ∙ and_from _ _ (rounds_solid r.profile.callers r.rounds (few_callers r h) h.each) refl)
+
+tail_solid : (t : Figures) → IsTail t → list_all are_solid (tail_lines t) ≡ true
+tail_solid t h =
+    let s = t.statistics in
+    let p = and_four (is_u64 s.blocks_in_use) (is_u64 s.size_in_use) (is_u64 s.max_size_in_use) (is_u64 s.size_allocated) h.numbers in
+    list_all-append are_solid (map listed_words t.listing) (statistics_lines s)
+    ∙ and_from _ _ (all_mapped listed_fits are_solid listed_words t.listing listed_solid h.each)
+    (rw (number_solid s.blocks_in_use p.0, number_solid s.size_in_use p.1, number_solid s.max_size_in_use p.2, number_solid s.size_allocated p.3) refl)
+
+-- the rounds, up to their `end`
+rounds_read :
+    (callers : ℕ) (rs : List RunRound) (rest : List Cut) (e : Ends callers (blank_reader callers) (flat_map run_round_lines rs) rs)
+    → list_all are_solid (flat_map run_round_lines rs) ≡ true
+    → rounds_from (blank_reader callers) 3 (map line_of (flat_map run_round_lines rs ++ (codes "end" ∷ []) ∷ []) ++ rest)
+    ≡ good (record { rounds = rs; number = 3 + length (flat_map run_round_lines rs) + 1; behind = rest })
+rounds_read callers rs rest e h =
+    let lines = flat_map run_round_lines rs in
+    let n = 3 + length lines in
+    let end : Cut = line_of (codes "end" ∷ []) in
+    let parts : map line_of (lines ++ (codes "end" ∷ []) ∷ []) ++ rest ≡ map line_of lines ++ (end ∷ rest) =
+    ap (λ (x : List Cut). x ++ rest) (map-append line_of lines ((codes "end" ∷ []) ∷ [])) ∙ append_assoc (map line_of lines) (end ∷ []) rest in
+    ap (rounds_from (blank_reader callers) 3) parts ∙ rounds_from-reads lines (blank_reader callers) e.before 3 (end ∷ rest) e.reads h
+    ∙ ap (λ (x : Read). after_line (λ s. rounds_from s (n + 1) rest) n rest x) e.ends
+
+-- the whole text
+pub text_read : (r : Run) (t : Figures) → IsRun r → IsTail t → reading_of (run_text r ++ tail_text t) ≡ good (r, t)
+text_read r t h k =
+    let p = r.profile in
+    let small = few_callers r h in
+    let behind = map line_of (tail_lines t) in
+    let lines = flat_map run_round_lines r.rounds ++ (codes "end" ∷ []) ∷ [] in
+    let tail : cuts (tail_text t) ≡ behind =
+    ap cuts (sym (append-nil (tail_text t))) ∙ cuts-lines (tail_lines t) [] (tail_solid t k) ∙ append-nil behind in
+    let whole : cuts (run_text r ++ tail_text t) ≡ map line_of (run_lines r) ++ behind =
+    cuts-lines (run_lines r) (tail_text t) (run_solid r h) ∙ ap (λ (x : List Cut). map line_of (run_lines r) ++ x) tail in
+    let fresh : all_fresh [] (run_commands r.rounds) ≡ true =
+    all_fresh-counted [] (run_commands r.rounds) (λ base. omega (arith, h.given_once base)) in
+    let ends = all_rounds p.callers r.rounds small h.limits.callers.0 h.few h.each fresh in
+    let n = 3 + length (flat_map run_round_lines r.rounds) + 1 in
+    let rounds = rounds_read p.callers r.rounds behind ends (rounds_solid p.callers r.rounds small h.each) in
+    let words = words_again (codes "space") (decimal p.pages ∷ codes "callers" ∷ decimal p.callers ∷ codes "magazines" ∷ decimal p.magazines ∷ codes "nano" ∷ decimal p.nano ∷ codes "gen" ∷ decimal p.most_gen ∷ codes "zones" ∷ decimal p.zones ∷ []) (space_solid p h.limits) in
+    ap from_first whole
+    ∙ ap (λ (ws : List (List ℕ)). and_then (or_bad 2 (profile_in ws)) (behind_profile (map line_of lines ++ behind))) words
+    ∙ ap (λ (o : Option Profile). and_then (or_bad 2 o) (behind_profile (map line_of lines ++ behind))) (profile_read p h.limits)
+    ∙ ap (λ (o : Outcome Rounds). and_then o (rounds_and_tail p)) rounds
+    ∙ ap (λ (o : Outcome Figures). and_then o (λ f. good (r, f))) (tail_read t n k)
+
+-- a run's text has one run and one tail
+outcome_run : Outcome RunAndTail → RunAndTail → RunAndTail
+outcome_run (good x) d = x
+outcome_run (bad n) d = d
+
+pub text_determines :
+    (r s : Run) (t u : Figures) → IsRun r → IsTail t → IsRun s → IsTail u → run_text r ++ tail_text t ≡ run_text s ++ tail_text u → (r ≡ s) × (t ≡ u)
+unfolding outcome_run
+text_determines r s t u hr ht hs hu e =
+    let same : good (r, t) ≡ good (s, u) = sym (text_read r t hr ht) ∙ ap reading_of e ∙ text_read s u hs hu in
+    let pair = ap (λ (o : Outcome RunAndTail). outcome_run o (r, t)) same in
+    (ap (λ (x : RunAndTail). x.0) pair, ap (λ (x : RunAndTail). x.1) pair)
+
+-- a tail without blocks
+abbrev no_figures : Figures
+no_figures = record { listing = []; statistics = record { blocks_in_use = 0; size_in_use = 0; max_size_in_use = 0; size_allocated = 0 } }
+
+pub run_text_determines : (r s : Run) → IsRun r → IsRun s → run_text r ≡ run_text s → r ≡ s
+run_text_determines r s hr hs e =
+    let tail : IsTail no_figures = record { each = refl; numbers = refl } in
+    (text_determines r s no_figures no_figures hr tail hs tail (ap (λ (x : List ℕ). x ++ tail_text no_figures) e)).0
+
+pub is_text_read : (bytes : List ℕ) (r : Run) (t : Figures) → IsRunText bytes r t → reading_of bytes ≡ good (r, t)
+is_text_read bytes r t h = ap reading_of h.spelled ∙ text_read r t h.run h.tail

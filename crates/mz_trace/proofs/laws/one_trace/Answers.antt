@@ -1,0 +1,5 @@
+use Rattle.mz_trace.proofs.CompleteLemmas.{one_trace}
+use Rattle.mz_trace.proofs.laws.one_trace.Goals as goal
+
+pub returns : goal.returns
+returns c = one_trace

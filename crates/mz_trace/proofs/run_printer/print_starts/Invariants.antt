@@ -1,0 +1,8 @@
+use Rattle.std.proofs.Common.{◌≡◌, ◌++◌, string_bytes, take}
+use Rattle.std.specs.List.{flat_map}
+use Rattle.mz_trace.specs.Texts.{line_text}
+use Rattle.mz_trace.specs.RunTexts.{start_record_lines}
+use Rattle.mz_trace.proofs.run_printer.print_starts.Given as goal
+
+abbrev pub invariant-loop-outcome : goal.invariant-loop-outcome
+invariant-loop-outcome l = string_bytes l.out ≡ string_bytes l.initial.out ++ flat_map line_text (flat_map start_record_lines (take l.outcome-index l.starts))

@@ -1,0 +1,63 @@
+//! Bytes, cut into lines.
+
+ghost use Rattle.std.specs.Prelude.{◌≡◌, ◌<◌, ◌+◌, ◌≤◌, ◌∷◌, [], IfSome, MatchOption, length, position, nat_eq};
+ghost use Rattle.std.specs.List.{list_all};
+ghost use Rattle.mz_trace.specs.Numbers.{is_from};
+ghost use Rattle.mz_trace.specs.Faults.{cuts, is_plain};
+ghost use Rattle.mz_trace.specs.RawLines.{cut_of};
+
+/// The bytes before a line feed, or behind the last one.
+#[derive(Clone, Copy, Debug)]
+pub struct RawLine<'a> {
+    pub text: &'a [u8],
+    /// Whether a line feed follows.
+    pub ended: bool,
+}
+
+/// The first line, and the bytes behind it.
+pub fn next_line(bytes: &[u8]) -> Option<(RawLine<'_>, &[u8])>
+    ensures cut { MatchOption result (cuts bytes.now ≡ []) (λ x. cuts bytes.now ≡ cut_of x.0 ∷ cuts x.1.now) }
+    ensures shorter { IfSome result (λ x. length x.1.now < length bytes.now) }
+    ensures sum { IfSome result (λ x. length x.0.text.now + length x.1.now ≤ length bytes.now) }
+{
+    if bytes.is_empty() {
+        return None;
+    }
+    match line_end(bytes) {
+        Some(end) => {
+            let line = RawLine {
+                text: &bytes[..end],
+                ended: true,
+            };
+            Some((line, &bytes[end + 1..]))
+        }
+        None => {
+            let line = RawLine {
+                text: bytes,
+                ended: false,
+            };
+            Some((line, &bytes[bytes.len()..]))
+        }
+    }
+}
+
+/// The place of the first line feed.
+fn line_end(bytes: &[u8]) -> Option<usize>
+    ensures place { result ≡ position (λ b. nat_eq b 10) bytes.now }
+    ensures within { IfSome result (λ i. i < length bytes.now) }
+{
+    bytes.iter().position(|b| *b == b'\n')
+}
+
+/// Whether a line can be read at all.
+pub fn is_plain(line: &RawLine<'_>) -> bool
+    ensures { result ≡ is_plain (cut_of line.now) }
+{
+    line.ended && line.text.len() <= 255 && all_printable(line.text)
+}
+
+fn all_printable(text: &[u8]) -> bool
+    ensures { result ≡ list_all (is_from 32 126) text.now }
+{
+    text.iter().all(|b| 32 <= *b && *b <= 126)
+}

@@ -1,0 +1,163 @@
+//! From a run to the bytes that are printed of it.
+//!
+//! - `words`: the words of a line.
+//! - `lines`: commands, events and answers, as words.
+//!
+//! Each function but `print_run` adds the text of its name to `out`. After an error a part of that
+//! text may stand there.
+
+ghost use Rattle.std.specs.Prelude.{◌≡◌, ◌++◌, ◌∷◌, [], ℕ, List, IfOk, OnOk, string_bytes, codes, length, map};
+ghost use Rattle.std.specs.List.{flat_map};
+ghost use Rattle.mz_trace.specs.Texts.{line_text};
+ghost use Rattle.mz_trace.specs.RunTexts.{run_text, run_round_lines, sections_from, section_lines, start_record_lines, call_record_lines, step_words, answer_words};
+ghost use Rattle.mz_trace.specs.TailTexts.{tail_text, listed_words, statistics_lines};
+
+mod lines;
+mod words;
+
+use crate::answer::Answer;
+use crate::run::{CallRecord, CallRecords, Run, RunRound, StartRecord, Step};
+use crate::tail::{Figures, Listed, Statistics};
+use lines::{print_answer, print_command, print_event, print_listed, print_space, print_start};
+use std::alloc::{AllocError, Global};
+
+/// The text of a run: the profile, the rounds with the sections of their callers, and `end`.
+pub fn print_run(alloc: Global, run: &Run) -> Result<String, AllocError>
+    ensures { IfOk result (λ text. string_bytes text ≡ run_text run.now) }
+{
+    let mut out = String::new(alloc);
+    out.push_str("mzone-run 1\n")?;
+    print_space(&mut out, &run.profile)?;
+    print_rounds(&mut out, run.rounds.as_slice())?;
+    out.push_str("end\n")?;
+    Ok(out)
+}
+
+fn print_rounds(out: &mut String, rounds: &[RunRound]) -> Result<(), AllocError>
+    ensures { OnOk result (string_bytes out.new ≡ string_bytes out.old ++ flat_map line_text (flat_map run_round_lines rounds.now)) }
+{
+    for round in rounds {
+        print_round(out, round)?;
+    }
+    Ok(())
+}
+
+fn print_round(out: &mut String, round: &RunRound) -> Result<(), AllocError>
+    ensures { OnOk result (string_bytes out.new ≡ string_bytes out.old ++ flat_map line_text (run_round_lines round.now)) }
+{
+    out.push_str("round\n")?;
+    print_starts(out, round.starts.as_slice())?;
+    print_sections(out, round.callers.as_slice())
+}
+
+fn print_starts(out: &mut String, starts: &[StartRecord]) -> Result<(), AllocError>
+    ensures { OnOk result (string_bytes out.new ≡ string_bytes out.old ++ flat_map line_text (flat_map start_record_lines starts.now)) }
+{
+    for outcome in starts {
+        print_start_record(out, outcome)?;
+    }
+    Ok(())
+}
+
+fn print_start_record(out: &mut String, outcome: &StartRecord) -> Result<(), AllocError>
+    ensures { OnOk result (string_bytes out.new ≡ string_bytes out.old ++ flat_map line_text (start_record_lines outcome.now)) }
+{
+    out.push_str(">")?;
+    print_start(out, outcome.line)?;
+    out.push_str("\n")?;
+    print_steps(out, outcome.steps.as_slice())?;
+    print_answer_line(out, outcome.answer)
+}
+
+fn print_sections(out: &mut String, callers: &[CallRecords]) -> Result<(), AllocError>
+    ensures { OnOk result (string_bytes out.new ≡ string_bytes out.old ++ flat_map line_text (sections_from 0 callers.now)) }
+{
+    for (caller, calls) in callers.iter().enumerate() {
+        print_section(out, caller, calls.as_slice())?;
+    }
+    Ok(())
+}
+
+fn print_section(out: &mut String, caller: usize, calls: &[CallRecord]) -> Result<(), AllocError>
+    ensures { OnOk result (string_bytes out.new ≡ string_bytes out.old ++ flat_map line_text (section_lines caller calls.now)) }
+{
+    writeln!(out, "caller {caller}")?;
+    print_calls(out, calls)
+}
+
+fn print_calls(out: &mut String, calls: &[CallRecord]) -> Result<(), AllocError>
+    ensures { OnOk result (string_bytes out.new ≡ string_bytes out.old ++ flat_map line_text (flat_map call_record_lines calls.now)) }
+{
+    for outcome in calls {
+        print_call_record(out, outcome)?;
+    }
+    Ok(())
+}
+
+fn print_call_record(out: &mut String, outcome: &CallRecord) -> Result<(), AllocError>
+    ensures { OnOk result (string_bytes out.new ≡ string_bytes out.old ++ flat_map line_text (call_record_lines outcome.now)) }
+{
+    out.push_str(">")?;
+    print_command(out, outcome.command)?;
+    out.push_str("\n")?;
+    print_steps(out, outcome.steps.as_slice())?;
+    print_answer_line(out, outcome.answer)
+}
+
+fn print_steps(out: &mut String, steps: &[Step]) -> Result<(), AllocError>
+    ensures { OnOk result (string_bytes out.new ≡ string_bytes out.old ++ flat_map line_text (map step_words steps.now)) }
+{
+    for step in steps {
+        print_step(out, step)?;
+    }
+    Ok(())
+}
+
+fn print_step(out: &mut String, step: &Step) -> Result<(), AllocError>
+    ensures { OnOk result (string_bytes out.new ≡ string_bytes out.old ++ line_text (step_words step.now)) }
+{
+    let ticket = step.ticket;
+    write!(out, "{ticket}")?;
+    print_event(out, step.event)?;
+    out.push_str("\n")
+}
+
+fn print_answer_line(out: &mut String, answer: Answer) -> Result<(), AllocError>
+    ensures { OnOk result (string_bytes out.new ≡ string_bytes out.old ++ line_text (codes "=" ∷ answer_words answer)) }
+{
+    out.push_str("=")?;
+    print_answer(out, answer)?;
+    out.push_str("\n")
+}
+
+/// The listing and the statistics.
+pub fn print_tail(out: &mut String, figures: &Figures) -> Result<(), AllocError>
+    ensures { OnOk result (string_bytes out.new ≡ string_bytes out.old ++ tail_text figures.now) }
+{
+    print_listing(out, figures.listing.as_slice())?;
+    print_statistics(out, figures.statistics)
+}
+
+fn print_listing(out: &mut String, blocks: &[Listed]) -> Result<(), AllocError>
+    ensures { OnOk result (string_bytes out.new ≡ string_bytes out.old ++ flat_map line_text (map listed_words blocks.now)) }
+{
+    for block in blocks {
+        print_listed(out, block)?;
+    }
+    Ok(())
+}
+
+fn print_statistics(out: &mut String, statistics: Statistics) -> Result<(), AllocError>
+    ensures { OnOk result (string_bytes out.new ≡ string_bytes out.old ++ flat_map line_text (statistics_lines statistics)) }
+{
+    let Statistics {
+        blocks_in_use,
+        size_in_use,
+        max_size_in_use,
+        size_allocated,
+    } = statistics;
+    writeln!(out, "blocks_in_use {blocks_in_use}")?;
+    writeln!(out, "size_in_use {size_in_use}")?;
+    writeln!(out, "max_size_in_use {max_size_in_use}")?;
+    writeln!(out, "size_allocated {size_allocated}")
+}

@@ -1,0 +1,80 @@
+-- The rounds of a trace whose lines are all built.
+use Rattle.std.proofs.Common.{◌≡◌, ℕ, ◌≤◌, Bool, true, false, List, [], ◌∷◌, ◌++◌, length, refl, ap, sym, subst, ◌∙◌, arith}
+use Rattle.std.specs.Prelude.{IsTrue, ◌&&◌, ◌==◌, nat_le, map}
+use Rattle.std.specs.List.{list_all, AllByRecursion}
+use Rattle.std.proofs.lemmas.Bool.{and_parts, and_from, false≢true, eqb-true, leb-true}
+use Rattle.mz_base.specs.declared.profile.Profile.{Profile}
+use Rattle.mz_trace.specs.declared.command.Command.{Command}
+use Rattle.mz_trace.specs.declared.round.Round.{Round}
+use Rattle.mz_trace.specs.declared.round.RoundLine.{RoundLine}
+use Rattle.mz_trace.specs.declared.trace.Trace.{Trace}
+use Rattle.mz_trace.specs.Lines.{Line, start}
+use Rattle.mz_trace.specs.Rounds.{HaveLists, call_line, calls_from, round_lines, lines_of_rounds}
+use Rattle.mz_run.specs.Built.{is_built_space, is_built_command, is_built_line, is_built_round, IsBuilt}
+
+-- of a list in two parts, all of each
+all_parts : (p : Line → Bool) (xs ys : List Line) → list_all p (xs ++ ys) ≡ true → (list_all p xs ≡ true) × (list_all p ys ≡ true)
+all_parts p [] ys all = (refl, all)
+all_parts p (x ∷ xs) ys all =
+    let first = and_parts (p x) (list_all p (xs ++ ys)) all in
+    let rest = all_parts p xs ys first.1 in
+    (and_from (p x) (list_all p xs) first.0 rest.0, rest.1)
+
+no_starts : (xs : List RoundLine) → list_all is_built_line (map start xs) ≡ true → (length xs == 0) ≡ true
+no_starts [] all = refl
+no_starts (x ∷ xs) all = absurd (false≢true all)
+
+built_calls : (cs : List Command) → list_all is_built_line (map call_line (map (λ c. (0, c)) cs ++ [])) ≡ true → list_all is_built_command cs ≡ true
+built_calls [] all = refl
+built_calls (c ∷ cs) all =
+    let parts = and_parts (is_built_command c) (list_all is_built_line (map call_line (map (λ d. (0, d)) cs ++ []))) all in
+    and_from (is_built_command c) (list_all is_built_command cs) parts.0 (built_calls cs parts.1)
+
+one_list :
+    (lists : List (List Command)) → length lists ≡ 1 → list_all is_built_line (map call_line (calls_from 0 lists)) ≡ true
+    → ((length lists == 1) && list_all (list_all is_built_command) lists) ≡ true
+one_list [] one all = absurd (omega arith)
+one_list (cs ∷ []) one all = and_from (list_all is_built_command cs) true (built_calls cs all) refl
+one_list (cs ∷ ds ∷ lists) one all = absurd (omega arith)
+
+assoc_and : (x y z : Bool) → x ≡ true → (y && z) ≡ true → ((x && y) && z) ≡ true
+assoc_and x y z first rest = rw first rest
+
+built_rounds : (rs : List Round) → HaveLists 1 rs → list_all is_built_line (lines_of_rounds rs) ≡ true → list_all is_built_round rs ≡ true
+built_rounds [] lists all = refl
+built_rounds (r ∷ rs) lists all =
+    let parts = all_parts is_built_line (round_lines r) (lines_of_rounds rs) all in
+    let inner = all_parts is_built_line (map start r.lines) (map call_line (calls_from 0 r.callers)) parts.0 in
+    let here : is_built_round r ≡ true = assoc_and (length r.lines == 0) (length r.callers == 1) (list_all (list_all is_built_command) r.callers) (no_starts r.lines inner.0) (one_list r.callers lists.0 inner.1) in
+    and_from (is_built_round r) (list_all is_built_round rs) here (built_rounds rs lists.1 parts.1)
+
+-- the numbers of a space that is built
+pub record HasBuiltNumbers (p : Profile) : Type 0 where
+  pub pages : p.pages ≤ 64
+  pub callers : p.callers ≡ 1
+  pub magazines : p.magazines ≡ 1
+  pub nano : p.nano ≡ 0
+  pub zones : p.zones ≡ 1
+
+pub built_numbers : (p : Profile) → is_built_space p ≡ true → HasBuiltNumbers p
+built_numbers p built =
+    let a = nat_le p.pages 64 in
+    let b = p.callers == 1 in
+    let c = p.magazines == 1 in
+    let d = p.nano == 0 in
+    let e = p.zones == 1 in
+    let fifth = and_parts (a && b && c && d) e built in
+    let fourth = and_parts (a && b && c) d fifth.0 in
+    let third = and_parts (a && b) c fourth.0 in
+    let second = and_parts a b third.0 in
+    record {
+      pages = leb-true p.pages 64 second.0;
+      callers = eqb-true p.callers 1 second.1;
+      magazines = eqb-true p.magazines 1 third.1;
+      nano = eqb-true p.nano 0 fourth.1;
+      zones = eqb-true p.zones 1 fifth.1;
+    }
+
+-- each round of a trace that is built
+pub rounds_built : (t : Trace) → IsBuilt t → IsTrue (list_all is_built_round t.rounds)
+rounds_built t built = built_rounds t.rounds (subst (λ (n : ℕ). HaveLists n t.rounds) (built_numbers t.profile built.space).callers built.lists) built.lines

@@ -1,0 +1,12 @@
+use Rattle.std.proofs.Common.{◌≡◌, ◌<◌, ◌+◌, ◌^◌, ℕ, length, map, drop}
+use Rattle.mz_trace.specs.Lines.{call}
+use Rattle.mz_run.specs.Passing.{passed}
+use Rattle.mz_run.proofs.built.pass_commands.Given as goal
+
+-- the commands so far are passed over
+abbrev pub invariant-loop-command : goal.invariant-loop-command
+invariant-loop-command l =
+    record {
+      same : (caller : ℕ) → passed l.fn.line (map (call caller) l.commands) ≡ passed l.line (map (call caller) (drop l.command-index l.commands));
+      fits : l.line + length (drop l.command-index l.commands) < 2 ^ 64;
+    }

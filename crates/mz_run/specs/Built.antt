@@ -1,0 +1,49 @@
+-- What the program runs today: one caller, one magazine, no nano, one zone, at most one region, and the commands
+-- `malloc` of what fits a quantum's range and `free`. This project's own.
+use Rattle.std.specs.Prelude.{ℕ, ◌+◌, ◌==◌, ◌≡◌, Bool, true, false, nat_le, ◌&&◌, not, List, length, position, Option, Some, IsTrue, if◌then◌else◌}
+use Rattle.std.specs.List.{list_all}
+use Rattle.std.specs.Option.{option_map}
+use Rattle.mz_base.specs.declared.profile.Profile.{Profile}
+use Rattle.mz_trace.specs.declared.command.Command.{Command}
+use Rattle.mz_trace.specs.declared.command.Command.TheVariants.{Malloc, Free}
+use Rattle.mz_trace.specs.declared.round.Round.{Round}
+use Rattle.mz_trace.specs.declared.trace.Trace.{Trace}
+use Rattle.mz_trace.specs.Lines.{Line, round, start, call}
+use Rattle.mz_trace.specs.Rounds.{HaveLists}
+use Rattle.mz_trace.specs.Texts.{IsTraceText, lines_of}
+
+-- a space within the limits that has these numbers
+abbrev pub is_built_space : Profile → Bool
+is_built_space p = nat_le p.pages 64 && (p.callers == 1) && (p.magazines == 1) && (p.nano == 0) && (p.zones == 1)
+
+-- `malloc` of at most 1,008 bytes, and `free`
+abbrev pub is_built_command : Command → Bool
+is_built_command (Malloc name n) = nat_le n 1008
+is_built_command (Free name) = true
+is_built_command _ = false
+
+-- `round`, and those commands
+abbrev pub is_built_line : Line → Bool
+is_built_line round = true
+is_built_line (start x) = false
+is_built_line (call caller command) = is_built_command command
+
+-- a round of such lines, with one list of commands
+abbrev pub is_built_round : Round → Bool
+is_built_round r = (length r.lines == 0) && (length r.callers == 1) && list_all (list_all is_built_command) r.callers
+
+-- The first line that isn't built, counted from 1: the second, which has the space, or a later one.
+abbrev pub unbuilt_line : Profile → List Line → Option ℕ
+unbuilt_line p lines = if is_built_space p then option_map (λ k. k + 3) (position (λ l. not (is_built_line l)) lines) else Some 2
+
+-- a trace whose lines are all built, with a list of commands for each caller in each round
+pub record IsBuilt (t : Trace) : Type 0 where
+  pub space : IsTrue (is_built_space t.profile)
+  pub lines : IsTrue (list_all is_built_line (lines_of t))
+  pub lists : HaveLists t.profile.callers t.rounds
+
+-- the bytes are the text of a trace, whose first line that isn't built is this one
+pub record HasUnbuilt (bytes : List ℕ) (number : ℕ) : Type 0 where
+  pub trace : Trace
+  pub text : IsTraceText bytes trace
+  pub first : unbuilt_line trace.profile text.lines ≡ Some number

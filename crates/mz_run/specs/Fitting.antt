@@ -1,0 +1,125 @@
+-- Which entries and answers fit a request, and a block that is dropped. A request goes to the caller's magazine, then to
+-- the depot, then to the free pages, and large ones to the cache first; all after libmalloc in outline, the exact
+-- entries being this project's own.
+use Rattle.std.specs.Prelude.{ℕ, ◌*◌, ◌%◌, ◌≡◌, ◌<◌, ◌≤◌, Bool, true, false, List, [], ◌∷◌, ◌++◌, map, Option, None, Some, IsTrue, Contains}
+use Rattle.mz_base.specs.declared.profile.Profile.{Profile}
+use Rattle.mz_base.specs.declared.range.TheConstants.{PAGE}
+use Rattle.mz_base.specs.declared.range.Range.TheVariants as range
+use Rattle.mz_base.specs.Sizes.{route_of, units_of, good_size_of}
+use Rattle.mz_base.specs.Space.{Block, block_at}
+use Rattle.mz_history.specs.declared.place.Place.{Place}
+use Rattle.mz_history.specs.declared.place.Place.TheVariants.{Tiny, Small, Large, Nano}
+use Rattle.mz_history.specs.declared.event.Event.{Event}
+use Rattle.mz_history.specs.declared.event.Event.TheVariants.{Take, Move, New, End, Full, Dry}
+use Rattle.mz_history.specs.declared.entry.Entry.{Entry}
+use Rattle.mz_history.specs.Places.{depot_of, spot_of, Spot}
+use Rattle.mz_history.specs.State.{kept_at}
+use Rattle.mz_history.specs.Room.{best_fit}
+use Rattle.mz_history.specs.Effect.{touches, run_of}
+use Rattle.mz_run.specs.Moments.{state_before, duty_left}
+
+-- a request by a caller, in a zone, for some bytes at an alignment
+pub record Request : Type 0 where
+  pub caller : ℕ
+  pub zone : ℕ
+  pub bytes : ℕ
+  pub align : ℕ
+
+-- the size of the block that serves the request
+abbrev pub size_for : Request → ℕ
+size_for q = good_size_of q.bytes
+
+-- the magazine of the caller, in the range that serves the request
+abbrev pub magazine_for : Profile → Request → Place
+magazine_for p q = elim (route_of q.bytes) [
+  | range.Small ↦ Small q.zone (q.caller % p.magazines)
+  | _ ↦ Tiny q.zone (q.caller % p.magazines)
+]
+
+-- the pages of a region in that range
+abbrev pub region_pages : Request → ℕ
+region_pages q = elim (route_of q.bytes) [
+  | range.Small ↦ 512
+  | _ ↦ 64
+]
+
+abbrev pub events : List Entry → List Event
+events es = map (λ e. e.event) es
+
+-- pages have no run of w pages at al, and so the oldest cached run of the zone goes back; as often as that happens
+abbrev pub AreFlushes : Profile → List Entry → ℕ → ℕ → ℕ → List Entry → Type 0
+AreFlushes p h z w al [] = Unit {0}
+AreFlushes p h z w al (d ∷ []) = ⊥
+AreFlushes p h z w al (d ∷ b ∷ es) = (d.event ≡ Dry z w al) × (duty_left p h d ≡ Some b.event) × AreFlushes p h z w al es
+
+-- pages have no run of w pages at al, and no run of the zone is cached
+pub record IsLastDry (p : Profile) (h : List Entry) (z w al : ℕ) (d : Entry) : Type 0 where
+  pub event : d.event ≡ Dry z w al
+  pub no_duty : duty_left p h d ≡ None
+
+-- The entries es of the history h serve the request with this block, or with none, in one of eight ways. The first five
+-- are those of tiny and small requests, the others those of large ones.
+pub data IsServed (p : Profile) (h : List Entry) (q : Request) (es : List Entry) (got : Option Block) : Type 0 where
+  by_nano :
+      (a : ℕ) → q.zone ≡ 0 → 0 < p.nano → q.bytes ≤ 256 → q.align ≡ 16
+      → events es ≡ New Nano a (size_for q) 16 ∷ []
+      → got ≡ Some (block_at a (size_for q)) → IsServed p h q es got
+  by_magazine :
+      (a : ℕ) → q.bytes ≤ 32768
+      → events es ≡ New (magazine_for p q) a (size_for q) q.align ∷ []
+      → got ≡ Some (block_at a (size_for q)) → IsServed p h q es got
+  by_depot :
+      (a f : ℕ) → q.bytes ≤ 32768
+      → events es ≡ Full (magazine_for p q) (size_for q) q.align ∷ Move f (depot_of (magazine_for p q)) (magazine_for p q)
+      ∷ New (magazine_for p q) a (size_for q) q.align ∷ []
+      → got ≡ Some (block_at a (size_for q)) → IsServed p h q es got
+  by_fresh_region :
+      (a f : ℕ) (front flushes back : List Entry) → q.bytes ≤ 32768 → es ≡ front ++ flushes ++ back
+      → events front ≡ Full (magazine_for p q) (size_for q) q.align ∷ Full (depot_of (magazine_for p q)) (size_for q) q.align ∷ []
+      → AreFlushes p h q.zone (region_pages q) (region_pages q) flushes
+      → events back ≡ Take (magazine_for p q) f (region_pages q) ∷ New (magazine_for p q) a (size_for q) q.align ∷ []
+      → got ≡ Some (block_at a (size_for q)) → IsServed p h q es got
+  null_in_range :
+      (front flushes : List Entry) (last : Entry) → q.bytes ≤ 32768 → es ≡ front ++ flushes ++ last ∷ []
+      → events front ≡ Full (magazine_for p q) (size_for q) q.align ∷ Full (depot_of (magazine_for p q)) (size_for q) q.align ∷ []
+      → AreFlushes p h q.zone (region_pages q) (region_pages q) flushes
+      → IsLastDry p h q.zone (region_pages q) (region_pages q) last
+      → got ≡ None → IsServed p h q es got
+  by_cache :
+      (e : Entry) (a s : ℕ) → 32768 < q.bytes → es ≡ e ∷ [] → e.event ≡ New (Large q.zone) a s q.align
+      → best_fit (kept_at (state_before p h e.ticket) (spot_of (Large q.zone))).cached (units_of q.bytes) ≡ Some (run_of (block_at a s))
+      → got ≡ Some (block_at a s) → IsServed p h q es got
+  by_fresh_run :
+      (f : ℕ) (first : Entry) (flushes back : List Entry) → 32768 < q.bytes → es ≡ first ∷ flushes ++ back
+      → first.event ≡ Full (Large q.zone) (units_of q.bytes) 1
+      → AreFlushes p h q.zone (units_of q.bytes) 1 flushes
+      → events back ≡ Take (Large q.zone) f (units_of q.bytes) ∷ New (Large q.zone) (f * PAGE) (size_for q) q.align ∷ []
+      → got ≡ Some (block_at (f * PAGE) (size_for q)) → IsServed p h q es got
+  null_in_large :
+      (first last : Entry) (flushes : List Entry) → 32768 < q.bytes → es ≡ first ∷ flushes ++ last ∷ []
+      → first.event ≡ Full (Large q.zone) (units_of q.bytes) 1
+      → AreFlushes p h q.zone (units_of q.bytes) 1 flushes
+      → IsLastDry p h q.zone (units_of q.bytes) 1 last
+      → got ≡ None → IsServed p h q es got
+
+-- an event that finds the pages dry
+abbrev pub is_dry : Event → Bool
+is_dry (Dry z w al) = true
+is_dry _ = false
+
+-- From an entry of a request up to a dry of the same request, no other caller's entry touches a place that the entry
+-- touches.
+abbrev pub IsUndisturbed : Profile → List Entry → ℕ → List Entry → Type 0
+IsUndisturbed p h c es =
+    (e d x : Entry) (j : Spot) → Contains es e → Contains es d → IsTrue (is_dry d.event) → Contains h x → e.ticket < x.ticket → x.ticket < d.ticket
+    → IsTrue (touches p e.event j) → IsTrue (touches p x.event j) → x.caller ≡ c
+
+-- each entry leaves a duty that the next one is, and the last leaves none
+abbrev pub MeetsDuties : Profile → List Entry → Entry → List Entry → Type 0
+MeetsDuties p h e [] = duty_left p h e ≡ None
+MeetsDuties p h e (d ∷ ds) = (duty_left p h e ≡ Some d.event) × MeetsDuties p h d ds
+
+-- The entries es of the history h drop a block: it ends in its place, and then come the duties, each at once.
+abbrev pub IsDropped : Profile → List Entry → Block → List Entry → Type 0
+IsDropped p h b [] = ⊥
+IsDropped p h b (e ∷ es) = (k : Place) × (e.event ≡ End k b.first b.size) × MeetsDuties p h e es

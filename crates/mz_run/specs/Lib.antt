@@ -1,0 +1,13 @@
+pub mod Built
+pub mod Names
+pub mod NamesMap
+pub mod Moments
+pub mod Fitting
+pub mod Resizing
+pub mod LawfulRun
+pub mod Listing
+pub mod Blocks
+pub mod Session
+pub mod Passing
+pub mod Top
+pub mod Replies

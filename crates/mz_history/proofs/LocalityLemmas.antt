@@ -9,10 +9,11 @@ use Rattle.mz_history.specs.declared.place.Place.TheVariants.{Pages, Tiny, Small
 use Rattle.mz_history.specs.declared.event.Event.{Event}
 use Rattle.mz_history.specs.declared.event.Event.TheVariants.{Take, New}
 use Rattle.mz_base.specs.Space.{block_at, run_at, blocks_apart}
-use Rattle.mz_history.specs.Places.{is_magazine, is_large, is_nano, zone_of, exists_in, is_size_of, is_length_of, depot_of, Spot, same_spot, spot_of}
-use Rattle.mz_history.specs.State.{Value, State, value_at}
+use Rattle.mz_history.specs.Places.{is_magazine, is_large, is_nano, zone_of, exists_in, is_size_of, is_length_of, depot_of, nano_start, Spot, same_spot, spot_of}
+use Rattle.mz_history.specs.State.{Value, State, value_at, is_open}
 use Rattle.mz_history.specs.Effect.{touched, touches, value_after, zones_after, after}
-use Rattle.mz_history.specs.Rules.{Rule, in_turn, duty_first, existing, takes_lowest, takes_claimed, backs_unused, backs_allowed, moves_in_by_duty, moves_out_claimed, fits_apart, placed, live_there, no_room, zone_changes, keeps, Fits, nano_start, claim_of, same_claim, lies_in_place, is_placed_in_magazine}
+use Rattle.mz_history.specs.Rules.{Rule, in_turn, duty_first, existing, takes_lowest, takes_claimed, backs_unused, backs_allowed, moves_in_by_duty, moves_out_claimed, fits_apart, placed, live_there, no_room, zone_changes, keeps, Fits, claim_of, same_claim}
+use Rattle.mz_history.specs.Placement.{lies_in_place, is_placed_in_magazine}
 use Rattle.mz_history.specs.Room.{any_fits, is_lowest_free}
 use Rattle.mz_history.specs.Duties.{allows}
 use Rattle.mz_history.specs.Locality.{reads, Agree, IsLocal}
@@ -69,7 +70,9 @@ module _ (p : Profile) (k : Place) (f w : ℕ) (s t : State) (c : ℕ) (agree : 
   unfolding keeps
   take_fits in_turn = refl
   take_fits duty_first = rw (at_place, at_pages) (fits duty_first)
-  take_fits existing = rw (← agree.zones) (fits existing)
+  take_fits existing =
+      let standing : Bool → Type 0 = λ open_there. IsTrue (nat_lt c p.callers && ((is_magazine k || is_large k) && (exists_in p k && open_there))) in
+      subst standing (agree.zones (zone_of k)) (fits existing)
   take_fits takes_lowest =
       let lowest : Value → Type 0 = λ v. IsTrue (is_length_of k w && is_lowest_free (nano_start p) v.kept.taken (run_at f w) (cond (is_large k) 1 w)) in
       subst lowest (sym at_pages) (fits takes_lowest)
@@ -87,16 +90,16 @@ module _ (p : Profile) (k : Place) (f w : ℕ) (s t : State) (c : ℕ) (agree : 
   take_fits zone_changes = refl
 
 module _ (p : Profile) (a n al c : ℕ) where
-  -- what the rules read for a new block in a magazine: the magazine's value and the open zones
-  new_test : Place → Rule → Value → List ℕ → Bool
-  new_test k duty_first v zones = allows v.duty (New k a n al) && true
-  new_test k existing v zones = nat_lt c p.callers && (((is_magazine k || is_large k) || is_nano k) && (exists_in p k && list_any (λ y. y == zone_of k) zones))
-  new_test k fits_apart v zones =
+  -- what the rules read for a new block in a magazine: the magazine's value, and whether its zone is open
+  new_test : Place → Rule → Value → Bool → Bool
+  new_test k duty_first v open_there = allows v.duty (New k a n al) && true
+  new_test k existing v open_there = nat_lt c p.callers && (((is_magazine k || is_large k) || is_nano k) && (exists_in p k && open_there))
+  new_test k fits_apart v open_there =
       is_size_of k n && nat_le 1 al && (a % al == 0) && lies_in_place p k v.kept.runs (block_at a n) && list_all (λ b. blocks_apart b (block_at a n)) v.kept.live
-  new_test k placed v zones = is_placed_in_magazine v.kept (block_at a n) al
-  new_test k _ v zones = true
+  new_test k placed v open_there = is_placed_in_magazine v.kept (block_at a n) al
+  new_test k _ v open_there = true
 
-  new_test_is : (k : Place) (s : State) (r : Rule) → is_magazine k ≡ true → keeps r p s c (New k a n al) ≡ new_test k r (value_at s (spot_of k)) s.open_zones
+  new_test_is : (k : Place) (s : State) (r : Rule) → is_magazine k ≡ true → keeps r p s c (New k a n al) ≡ new_test k r (value_at s (spot_of k)) (is_open s (zone_of k))
   unfolding keeps new_test
   new_test_is (Tiny z m) s in_turn h = refl
   new_test_is (Tiny z m) s _ h = refl
@@ -112,19 +115,23 @@ module _ (p : Profile) (a n al c : ℕ) where
   new_fits : (k : Place) → is_magazine k ≡ true → (s t : State) → Agree p (New k a n al) s t → Fits p s c (New k a n al) → Fits p t c (New k a n al)
   new_fits k h s t agree fits r =
       new_test_is k t r h
-      ∙ ap (new_test k r (value_at t (spot_of k))) (sym agree.zones)
-      ∙ ap (λ v. new_test k r v s.open_zones) (sym (agree.values (spot_of k) (reads_magazine k h)))
+      ∙ ap (new_test k r (value_at t (spot_of k))) (sym (agree.zones (zone_of k)))
+      ∙ ap (λ v. new_test k r v (is_open s (zone_of k))) (sym (agree.values (spot_of k) (reads_magazine k h)))
       ∙ sym (new_test_is k s r h) ∙ fits r
 
-same_zones : (p : Profile) (e : Event) (s t : State) (c : ℕ) → s.open_zones ≡ t.open_zones → (after p s c e).open_zones ≡ (after p t c e).open_zones
+-- an event that opens and shuts nothing leaves each zone as open as it was
+same_zones : (p : Profile) (e : Event) → ((zones : List ℕ) → zones_after zones e ≡ zones)
+    → (s t : State) (c z : ℕ) → Agree p e s t → is_open (after p s c e) z ≡ is_open (after p t c e) z
 unfolding after
-same_zones p e s t c h = ap (λ zones. zones_after zones e) h
+same_zones p e same s t c z agree =
+    let is_in : List ℕ → Bool = λ zones. list_any (λ y. y == z) zones in
+    ap is_in (same s.open_zones) ∙ agree.zones z ∙ ap is_in (sym (same t.open_zones))
 
 pub new_is_local : (p : Profile) (k : Place) (a n al : ℕ) → is_magazine k ≡ true → IsLocal p (New k a n al)
 new_is_local p k a n al h = record {
   fits = λ s t c agree. new_fits p a n al c k h s t agree;
   effect = same_effect p (New k a n al) (new_effect k a n al h);
-  zones = λ s t c agree. same_zones p (New k a n al) s t c agree.zones;
+  zones = same_zones p (New k a n al) (λ zones. refl);
   elsewhere = λ s c j. value_at-untouched p s c (New k a n al) j;
 }
 
@@ -132,6 +139,6 @@ pub take_is_local : (p : Profile) (k : Place) (f w : ℕ) → IsLocal p (Take k 
 take_is_local p k f w = record {
   fits = λ s t c agree. take_fits p k f w s t c agree;
   effect = same_effect p (Take k f w) (take_effect k f w);
-  zones = λ s t c agree. same_zones p (Take k f w) s t c agree.zones;
+  zones = same_zones p (Take k f w) (λ zones. refl);
   elsewhere = λ s c j. value_at-untouched p s c (Take k f w) j;
 }

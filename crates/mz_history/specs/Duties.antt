@@ -1,4 +1,5 @@
--- A duty is one event that stands at named places until it comes.
+-- A duty is one event that stands at named spots until it comes. That sparse regions go to a depot, and freed large
+-- runs into a cache, is after libmalloc; that they have to, and when, is this project's own.
 use Rattle.std.specs.Prelude.{ℕ, ◌-◌, ◌*◌, ◌/◌, ◌==◌, Bool, true, false, nat_lt, ◌&&◌, List, [], ◌∷◌, filter, find, length, sum_by, Option, Some, None, if◌then◌else◌}
 use Rattle.std.specs.List.{list_any}
 use Rattle.std.specs.Option.{option_map}
@@ -32,9 +33,11 @@ is_owed (Some d) e = is_that d e
 abbrev pub blocks_in : List Block → Run → List Block
 blocks_in live r = filter (λ b. lies_in r b.first (block_end b)) live
 
+-- the bytes of these blocks
 abbrev pub size_sum : List Block → ℕ
 size_sum live = sum_by (λ b. b.size) live
 
+-- the bytes of a run
 abbrev pub run_bytes : Run → ℕ
 run_bytes r = r.pages * PAGE
 
@@ -46,10 +49,11 @@ is_in_excess k =
     let used = size_sum k.live in
     list_any (λ r. nat_lt (3 * run_bytes r) (2 * (all - used))) k.runs && nat_lt used (all - all / 4)
 
--- a region is sparse where less than three quarters of it are live
+-- a region is sparse where less than three quarters of it are live (this project's own)
 abbrev pub is_sparse : List Block → Run → Bool
 is_sparse live r = nat_lt (4 * size_sum (blocks_in live r)) (3 * run_bytes r)
 
+-- a region is unused where no live block lies in it
 abbrev pub is_unused : List Block → Run → Bool
 is_unused live r = length (blocks_in live r) == 0
 
@@ -66,7 +70,7 @@ abbrev pub back_of_oldest : Place → List Run → Option Event
 back_of_oldest l [] = None
 back_of_oldest l (r ∷ rs) = Some (Back l r.first r.pages)
 
--- with 17 runs cached, the oldest goes
+-- with 17 runs cached, the oldest goes (after libmalloc's death row; its 16 places are this project's)
 abbrev pub death_row : Place → Kept → Option Event
 death_row l k = if nat_lt 16 (length k.cached) then back_of_oldest l k.cached else None
 

@@ -26,18 +26,23 @@ touched p (No k z a s) = spot_at k a ∷ []
 touched p (Open z) = map spot_of (places_of p z)
 touched p (Shut z) = map spot_of (places_of p z)
 
+-- the event touches this spot
 abbrev pub touches : Profile → Event → Spot → Bool
 touches p e j = list_any (same_spot j) (touched p e)
 
+-- the runs with this one among them, by first page
 abbrev pub add_run : Run → List Run → List Run
 add_run r rs = insert_by (λ t. t.first) r rs
 
+-- the runs without this one
 abbrev pub drop_run : Run → List Run → List Run
 drop_run r rs = filter (λ t. not (same_run r t)) rs
 
+-- the blocks with this one among them, by address
 abbrev pub add_block : Block → List Block → List Block
 add_block b bs = insert_by (λ c. c.first) b bs
 
+-- the blocks without this one
 abbrev pub drop_block : Block → List Block → List Block
 drop_block b bs = filter (λ c. not (same_block b c)) bs
 
@@ -46,17 +51,19 @@ abbrev pub still_freed : Block → Option Block → Option Block
 still_freed b None = None
 still_freed b (Some f) = if blocks_apart f b then Some f else None
 
--- the regions of each range are counted as they are taken and come back
+-- a place whose runs are tiny regions
 abbrev pub is_tiny : Place → Bool
 is_tiny (Tiny z m) = true
 is_tiny (TinyDepot z) = true
 is_tiny _ = false
 
+-- a place whose runs are small regions
 abbrev pub is_small : Place → Bool
 is_small (Small z m) = true
 is_small (SmallDepot z) = true
 is_small _ = false
 
+-- 1 where the test holds: the regions of each range are counted as they are taken and come back
 abbrev pub one_for : Bool → ℕ
 one_for b = if b then 1 else 0
 
@@ -150,6 +157,7 @@ zones_after zones (Open z) = z ∷ zones
 zones_after zones (Shut z) = filter (λ y. not (y == z)) zones
 zones_after zones _ = zones
 
+-- the values after an event by a caller: new ones at the spots that it touches, and the old ones elsewhere
 abbrev pub values_after : Profile → State → ℕ → Event → List (Spot × Value)
 values_after p s c e = write_all (value_after s c e) (touched p e) s.values
 

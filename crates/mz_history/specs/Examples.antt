@@ -13,9 +13,11 @@ use Rattle.mz_history.specs.History.{Breach}
 abbrev pub profile_of : ℕ → Profile
 profile_of pages = record { pages = pages; callers = 1; magazines = 1; nano = 0; most_gen = 1024; zones = 1 }
 
+-- an entry of caller 0
 abbrev pub entry_of : ℕ → Event → Entry
 entry_of ticket event = record { ticket = ticket; caller = 0; event = event }
 
+-- the answer that this rule is broken first, at this ticket
 abbrev pub breach_at : ℕ → Rule → Option Breach
 breach_at ticket rule = Some (record { ticket = ticket; rule = rule })
 
@@ -36,13 +38,14 @@ large = Large 0
 abbrev pub first_region : ℕ → List Entry
 first_region n = entry_of 0 (Full magazine n 16) ∷ entry_of 1 (Full depot n 16) ∷ entry_of 2 (Take magazine 0 64) ∷ []
 
--- the same, with a take of so many pages
-abbrev pub until_take : ℕ → List Entry
-until_take pages = entry_of 0 (Full magazine 112 16) ∷ entry_of 1 (Full depot 112 16) ∷ entry_of 2 (Take magazine 0 pages) ∷ []
-
 -- one block of 112 bytes in 64 pages
 abbrev pub thin_path : List Entry
 thin_path = first_region 112 ++ entry_of 3 (New magazine 0 112 16) ∷ []
+
+-- the same, but that only half a region is taken
+abbrev pub half_a_region : List Entry
+half_a_region =
+    entry_of 0 (Full magazine 112 16) ∷ entry_of 1 (Full depot 112 16) ∷ entry_of 2 (Take magazine 0 32) ∷ entry_of 3 (New magazine 0 112 16) ∷ []
 
 -- two blocks of 48 bytes, of which the first ends, and a third that is placed on it
 abbrev pub last_freed_block : List Entry
@@ -55,5 +58,6 @@ until_dry =
     entry_of 0 (Full large 5 1) ∷ entry_of 1 (Take large 0 5) ∷ entry_of 2 (New large 0 81920 16) ∷ entry_of 3 (End large 0 81920) ∷ entry_of 4 (Full large 7 1)
     ∷ entry_of 5 (Dry 0 7 1) ∷ []
 
+-- the cached run goes back, and the block of 7 pages is served
 abbrev pub dry_with_a_cache : List Entry
 dry_with_a_cache = until_dry ++ entry_of 6 (Back large 0 5) ∷ entry_of 7 (Take large 0 7) ∷ entry_of 8 (New large 0 114688 16) ∷ []

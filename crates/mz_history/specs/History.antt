@@ -1,4 +1,4 @@
--- Lawful entries and lawful histories.
+-- Lawful entries and lawful histories. This project's own.
 use Rattle.std.specs.Prelude.{ℕ, ◌==◌, ◌≡◌, Bool, ◌&&◌, not, List, [], ◌∷◌, Option, Some, None, is_none, IsTrue, if◌then◌else◌}
 use Rattle.std.specs.List.{list_any, list_all}
 use Rattle.mz_base.specs.declared.profile.Profile.{Profile}

@@ -1,6 +1,7 @@
 pub mod Places
 pub mod State
 pub mod Room
+pub mod Placement
 pub mod Rules
 pub mod Duties
 pub mod Effect
@@ -12,3 +13,4 @@ pub mod FreeRuns
 pub mod IdleRuns
 pub mod Cycles
 pub mod Rows
+pub mod Edges

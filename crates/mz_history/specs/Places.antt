@@ -1,5 +1,6 @@
--- The places of a space, and the spots at which a state keeps its values.
-use Rattle.std.specs.Prelude.{ℕ, ◌==◌, Bool, true, false, nat_lt, ◌&&◌, ◌||◌, List, [], ◌∷◌, ◌++◌, map}
+-- The places of a space, and the spots at which a state keeps its values. Magazines, depots, large and nano are after
+-- libmalloc; the numbers of zones, the free pages as a place, and spots are this project's own.
+use Rattle.std.specs.Prelude.{ℕ, ◌-◌, ◌==◌, Bool, true, false, nat_lt, ◌&&◌, ◌||◌, List, [], ◌∷◌, ◌++◌, map}
 use Rattle.std.specs.List.{range_with_len}
 use Rattle.mz_base.specs.declared.profile.Profile.{Profile}
 use Rattle.mz_base.specs.declared.range.Range.TheVariants as range
@@ -8,24 +9,29 @@ use Rattle.mz_base.specs.Sizes.{unit_of, is_size, is_run_length}
 use Rattle.mz_history.specs.declared.place.Place.{Place}
 use Rattle.mz_history.specs.declared.place.Place.TheVariants.{Pages, Tiny, TinyDepot, Small, SmallDepot, Large, Nano}
 
+-- a magazine of tiny or small regions, from which blocks are served
 abbrev pub is_magazine : Place → Bool
 is_magazine (Tiny z m) = true
 is_magazine (Small z m) = true
 is_magazine _ = false
 
+-- a depot, which has the regions that a zone put aside
 abbrev pub is_depot : Place → Bool
 is_depot (TinyDepot z) = true
 is_depot (SmallDepot z) = true
 is_depot _ = false
 
+-- large of a zone, each of whose runs is one block or is cached
 abbrev pub is_large : Place → Bool
 is_large (Large z) = true
 is_large _ = false
 
+-- the free pages
 abbrev pub is_pages : Place → Bool
 is_pages Pages = true
 is_pages _ = false
 
+-- nano, which serves zone 0 from pages of its own
 abbrev pub is_nano : Place → Bool
 is_nano Nano = true
 is_nano _ = false
@@ -76,6 +82,10 @@ is_length_of (SmallDepot z) w = is_run_length range.Small w
 is_length_of (Large z) w = is_run_length range.Large w
 is_length_of Nano w = false
 
+-- nano's pages are the last of the space: this is the first of them
+abbrev pub nano_start : Profile → ℕ
+nano_start p = p.pages - p.nano
+
 -- the place is one of a space with this profile
 abbrev pub exists_in : Profile → Place → Bool
 exists_in p Pages = true
@@ -98,6 +108,7 @@ pub record Spot : Type 0 where
   pub zone : ℕ
   pub index : ℕ
 
+-- two spots are one
 abbrev pub same_spot : Spot → Spot → Bool
 same_spot j k = (j.kind == k.kind) && (j.zone == k.zone) && (j.index == k.index)
 
@@ -115,6 +126,7 @@ spot_at Nano a = record { kind = 6; zone = 0; index = page_of a }
 abbrev pub spot_of : Place → Spot
 spot_of k = spot_at k 0
 
+-- two places are one
 abbrev pub same_place : Place → Place → Bool
 same_place j k = same_spot (spot_of j) (spot_of k)
 

@@ -71,11 +71,12 @@ is_lowest_free top taken r al =
     && list_all (λ x. nat_le r.first (least_multiple al x) || not (is_free top taken (run_from r.pages al x))) (page_starts taken)
 
 -- a cached run fits w pages where it has them and wastes fewer than w
-abbrev pub fits : ℕ → Run → Bool
-fits w r = nat_le w r.pages && nat_lt (r.pages - w) w
+abbrev pub run_fits : ℕ → Run → Bool
+run_fits w r = nat_le w r.pages && nat_lt (r.pages - w) w
 
+-- some cached run fits w pages
 abbrev pub any_fits : List Run → ℕ → Bool
-any_fits cached w = list_any (fits w) cached
+any_fits cached w = list_any (run_fits w) cached
 
 -- of two runs that fit the one with fewer pages, and of equals the first
 abbrev pub better : Run → Option Run → Run
@@ -85,4 +86,4 @@ better r (Some t) = if nat_lt t.pages r.pages then t else r
 -- the best fit for w pages among the cached runs, which stand in order of freeing
 unfoldable pub best_fit : List Run → ℕ → Option Run
 best_fit [] w = None
-best_fit (r ∷ rs) w = if fits w r then Some (better r (best_fit rs w)) else best_fit rs w
+best_fit (r ∷ rs) w = if run_fits w r then Some (better r (best_fit rs w)) else best_fit rs w

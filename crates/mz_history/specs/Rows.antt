@@ -65,11 +65,15 @@ two_zones = record (profile_of 64) { zones = 2 }
 abbrev pub second : Place
 second = Tiny 1 0
 
--- A zone opens, serves one block that is then looked for in zone 0, and is shut.
+-- a zone opens, and serves one block
+abbrev pub second_serves : List Entry
+second_serves =
+    entry_of 0 (Open 1) ∷ entry_of 1 (Full second 16 16) ∷ entry_of 2 (Full (TinyDepot 1) 16 16) ∷ entry_of 3 (Take second 0 64) ∷ entry_of 4 (New second 0 16 16) ∷ []
+
+-- the block is looked for in zone 0, and ends; the zone is shut, and gives its region back
 abbrev pub zone_life : List Entry
 zone_life =
-    entry_of 0 (Open 1) ∷ entry_of 1 (Full second 16 16) ∷ entry_of 2 (Full (TinyDepot 1) 16 16) ∷ entry_of 3 (Take second 0 64) ∷ entry_of 4 (New second 0 16 16)
-    ∷ entry_of 5 (No second 0 0 16) ∷ entry_of 6 (End second 0 16) ∷ entry_of 7 (Shut 1) ∷ entry_of 8 (Back second 0 64) ∷ []
+    second_serves ++ entry_of 5 (No second 0 0 16) ∷ entry_of 6 (End second 0 16) ∷ entry_of 7 (Shut 1) ∷ entry_of 8 (Back second 0 64) ∷ []
 
 -- the last two of 64 pages are nano's, the second of them from this address on
 abbrev pub two_nano_pages : Profile

@@ -1,19 +1,22 @@
 -- When an event is lawful: the rules, each under the number by which its breach is reported. Quanta, magazines,
 -- the last freed block, depots and the cache of freed large runs are after libmalloc; all else is this project's own.
-use Rattle.std.specs.Prelude.{ℕ, ◌+◌, ◌-◌, ◌*◌, ◌++◌, ◌%◌, ◌==◌, Bool, true, false, nat_lt, nat_le, ◌&&◌, ◌||◌, not, List, [], ◌∷◌, length, find, Option, Some, None, IsTrue, if◌then◌else◌}
+-- Rules 10 and 11, on where a block lies and where a new one is placed, stand in `Placement`.
+use Rattle.std.specs.Prelude.{ℕ, ◌==◌, Bool, true, false, nat_lt, nat_le, ◌&&◌, ◌||◌, not, List, [], ◌∷◌, length, find, Option, Some, None, IsTrue, if◌then◌else◌}
 use Rattle.std.specs.List.{list_any, list_all}
-use Rattle.mz_base.specs.declared.range.TheConstants.{PAGE}
 use Rattle.mz_base.specs.declared.profile.Profile.{Profile}
-use Rattle.mz_base.specs.Space.{Block, Run, block_at, run_at, block_end, blocks_apart, bytes_of, same_block, same_run}
+use Rattle.mz_base.specs.Space.{block_at, run_at, blocks_apart, bytes_of}
 use Rattle.mz_history.specs.declared.place.Place.{Place}
 use Rattle.mz_history.specs.declared.place.Place.TheVariants.{Pages}
 use Rattle.mz_history.specs.declared.event.Event.{Event}
 use Rattle.mz_history.specs.declared.event.Event.TheVariants.{Take, Back, Move, New, End, Size, Full, Dry, No, Open, Shut}
-use Rattle.mz_history.specs.Places.{is_magazine, is_depot, is_large, is_nano, is_pages, zone_of, depot_of, quantum_of, is_size_of, is_length_of, exists_in, places_of, are_pair, spot_at, spot_of}
+use Rattle.mz_history.specs.Places.{is_magazine, is_depot, is_large, is_nano, is_pages, zone_of, depot_of, is_length_of, exists_in, places_of, are_pair, spot_at, spot_of}
+pub use Rattle.mz_history.specs.Places.{nano_start}
 use Rattle.mz_history.specs.State.{Kept, Deed, State, value_at, kept_at, is_open, has_run, has_block}
-use Rattle.mz_history.specs.Room.{lies_in, any_has_room, has_room, is_at_front, wide, narrow, has_free, is_lowest_free, any_fits, best_fit}
+use Rattle.mz_history.specs.Room.{any_has_room, has_room, wide, has_free, is_lowest_free, any_fits}
 use Rattle.mz_history.specs.Duties.{allows, is_owed}
-use Rattle.mz_history.specs.Effect.{touched, run_of}
+use Rattle.mz_history.specs.Effect.{touched}
+use Rattle.mz_history.specs.Placement.{fits_apart_there, is_placed}
+pub use Rattle.mz_history.specs.Placement.{is_placed_in_magazine}
 
 -- The rules in the order in which their breaches are reported. The first, that tickets are 0, 1, 2 and so
 -- on, is the history's own; the others are an event's.
@@ -49,10 +52,6 @@ number_of placed = 11
 number_of live_there = 12
 number_of no_room = 13
 number_of zone_changes = 14
-
--- pages below this one aren't nano's
-abbrev pub nano_start : Profile → ℕ
-nano_start p = p.pages - p.nano
 
 -- Rule 2: where a duty stands at a spot that the event touches, the event is that duty.
 abbrev pub meets_duties : Profile → State → Event → Bool
@@ -96,6 +95,7 @@ claim_of c (Some d) = elim d.event [
   | _ ↦ None
 ]
 
+-- both are claims, for one size and one alignment
 abbrev pub same_claim : Option (ℕ × ℕ) → Option (ℕ × ℕ) → Bool
 same_claim (Some a) (Some b) = (a.0 == b.0) && (a.1 == b.1)
 same_claim _ _ = false
@@ -141,76 +141,16 @@ is_claimed_move s c (Move f from to) =
     else elim (claim_of c (value_at s (spot_of to)).last) [ Some claim ↦ is_lowest_with_room (kept_at s (spot_of from)) f claim | None ↦ false ]
 is_claimed_move s c _ = true
 
--- the block's bytes are nano's
-abbrev pub lies_in_nano : Profile → Block → Bool
-lies_in_nano p b = nat_le (nano_start p * PAGE) b.first && nat_le (block_end b) (p.pages * PAGE)
-
--- the block lies in one run of its place, as whole quanta of it
-abbrev pub lies_in_place : Profile → Place → List Run → Block → Bool
-lies_in_place p k runs b =
-    if is_nano k then lies_in_nano p b
-    else list_any (λ r. lies_in r b.first (block_end b)) runs && (is_large k || ((b.first % quantum_of k == 0) && (b.size % quantum_of k == 0)))
-
--- the live blocks that a block can overlap: those of its place, and in nano those of its first and last page
-abbrev pub live_near : State → Place → Block → List Block
-live_near s k b = if is_nano k then (kept_at s (spot_at k b.first)).live ++ (kept_at s (spot_at k (block_end b - 1))).live else (kept_at s (spot_of k)).live
-
--- Rule 10: the extent of a new or resized block is a size of the range, lies in one run of its place, and
--- is apart from every other live block; a new block's address is a multiple of its alignment.
-abbrev pub fits_apart_there : Profile → State → Event → Bool
-fits_apart_there p s (New k a n al) =
-    let b = block_at a n in
-    is_size_of k n && nat_le 1 al && (a % al == 0) && lies_in_place p k (kept_at s (spot_at k a)).runs b
-    && list_all (λ c. blocks_apart c b) (live_near s k b)
-fits_apart_there p s (Size k a n m) =
-    let b = block_at a m in
-    is_size_of k m && lies_in_place p k (kept_at s (spot_at k a)).runs b
-    && list_all (λ c. (c.first == a) || blocks_apart c b) (kept_at s (spot_at k a)).live
-fits_apart_there p s _ = true
-
--- the last freed block serves a request for its size, where its address is aligned
-abbrev pub serves : Block → ℕ → ℕ → Bool
-serves f n al = (f.size == n) && (f.first % al == 0)
-
--- a magazine places a block on the last freed one where that serves, and else at the front of an idle run,
--- in the wide or the narrow reading
-abbrev pub is_placed_in_magazine : Kept → Block → ℕ → Bool
-is_placed_in_magazine k b al =
-    let at_front = is_at_front k.runs (wide k) b al || is_at_front k.runs (narrow k) b al in
-    elim k.last_freed [ None ↦ at_front | Some f ↦ if serves f b.size al then same_block f b else at_front ]
-
-abbrev pub is_some_run : Option Run → Run → Bool
-is_some_run None r = false
-is_some_run (Some t) r = same_run t r
-
--- Large places a block on a whole run: on the cached run that fits best, or on one that is neither cached nor live
--- where no cached run fits. (A run that is the best fit for some number of pages is so for its own.)
-abbrev pub is_placed_in_large : Kept → Block → Bool
-is_placed_in_large k b =
-    let r = run_of b in
-    same_block b (bytes_of r) && (is_some_run (best_fit k.cached r.pages) r
-    || (has_run k.runs r && not (has_run k.cached r) && not (has_block k.live b) && not (any_fits k.cached r.pages)))
-
--- nano places a block on a whole slot of its size, in a page of that size
-abbrev pub is_placed_in_nano : Kept → Block → Bool
-is_placed_in_nano k b = (b.first % PAGE % b.size == 0) && nat_le (b.first % PAGE + b.size) PAGE && list_all (λ c. c.size == b.size) k.live
-
--- Rule 11: a new block is placed as its place does it.
-abbrev pub is_placed : State → Event → Bool
-is_placed s (New k a n al) =
-    let b = block_at a n in
-    let kept = kept_at s (spot_at k a) in
-    if is_magazine k then is_placed_in_magazine kept b al else (if is_large k then is_placed_in_large kept b else is_placed_in_nano kept b)
-is_placed s _ = true
-
--- Rule 12: a block that ends, changes its size or isn't of a zone is live in the place.
+-- Rule 12: a block that ends, changes its size or is said not to be of a zone is live in the place, and in the last
+-- case the place is of another zone.
 abbrev pub is_live_there : State → Event → Bool
 is_live_there s (End k a n) = has_block (kept_at s (spot_at k a)).live (block_at a n)
 is_live_there s (Size k a n m) = has_block (kept_at s (spot_at k a)).live (block_at a n)
 is_live_there s (No k z a n) = has_block (kept_at s (spot_at k a)).live (block_at a n) && not (zone_of k == z)
 is_live_there s _ = true
 
--- Rule 13: what is said to be full or dry has no room, in the wide reading.
+-- Rule 13: a place that is said to be full has no room, in the wide reading, and no cached run that fits; pages that
+-- are said to be dry have no free run of that length at that alignment.
 abbrev pub has_no_room : Profile → State → Event → Bool
 has_no_room p s (Full k n al) =
     let kept = kept_at s (spot_of k) in
@@ -218,9 +158,11 @@ has_no_room p s (Full k n al) =
 has_no_room p s (Dry z w al) = nat_le 1 w && nat_le 1 al && not (has_free (nano_start p) (kept_at s (spot_of Pages)).taken w al)
 has_no_room p s _ = true
 
+-- no place of the zone has a run
 abbrev pub has_no_runs : Profile → State → ℕ → Bool
 has_no_runs p s z = list_all (λ k. length (kept_at s (spot_of k)).runs == 0) (places_of p z)
 
+-- no live block lies in a place of the zone
 abbrev pub has_no_blocks : Profile → State → ℕ → Bool
 has_no_blocks p s z = list_all (λ k. length (kept_at s (spot_of k)).live == 0) (places_of p z)
 

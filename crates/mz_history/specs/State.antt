@@ -1,10 +1,13 @@
 -- What a history leaves: one value for each spot, and beside these the open zones, the number of
--- entries and the greatest sum of live sizes so far.
-use Rattle.std.specs.Prelude.{ℕ, ◌==◌, Bool, nat_lt, List, [], ◌∷◌, map, sum_by, Option, None, if◌then◌else◌}
+-- entries and the greatest sum of live sizes so far. This project's own.
+use Rattle.std.specs.Prelude.{ℕ, ◌*◌, ◌==◌, Bool, nat_lt, List, [], ◌∷◌, ◌++◌, map, sum_by, Option, None, if◌then◌else◌}
 use Rattle.std.specs.List.{list_any, flat_map}
-use Rattle.mz_base.specs.Space.{Block, Run, same_block, same_run}
+use Rattle.mz_base.specs.declared.range.TheConstants.{PAGE}
+use Rattle.mz_base.specs.declared.profile.Profile.{Profile}
+use Rattle.mz_base.specs.Space.{Block, Run, run_at, same_block, same_run}
+use Rattle.mz_history.specs.declared.place.Place.TheVariants.{Nano}
 use Rattle.mz_history.specs.declared.event.Event.{Event}
-use Rattle.mz_history.specs.Places.{Spot, same_spot}
+use Rattle.mz_history.specs.Places.{Spot, same_spot, spot_at, nano_start}
 
 -- What a keeper can stand for. The free pages have only the last three fields, and nano's pages only
 -- live blocks; lists of runs and blocks are ascending, but that cached runs stand in order of freeing.
@@ -31,12 +34,14 @@ pub record Value : Type 0 where
   pub duty : Option Event
   pub last : Option Deed
 
+-- A state. A spot that isn't in the list has the blank value.
 pub record State : Type 0 where
   pub values : List (Spot × Value)
   pub open_zones : List ℕ
   pub entries : ℕ
   pub greatest : ℕ
 
+-- no run, no block, nothing cached, nothing taken
 abbrev pub nothing_kept : Kept
 nothing_kept = record { runs = []; live = []; last_freed = None; cached = []; taken = []; tiny_regions = 0; small_regions = 0 }
 
@@ -76,12 +81,21 @@ has_run rs r = list_any (same_run r) rs
 abbrev pub has_block : List Block → Block → Bool
 has_block bs b = list_any (same_block b) bs
 
--- all live blocks, and all runs of magazines, depots and large, each with its spot; nano's pages are one run more
+-- all live blocks, each with its spot
 abbrev pub live_blocks : State → List (Spot × Block)
 live_blocks s = flat_map (λ pair. map (λ b. (pair.0, b)) pair.1.kept.live) s.values
 
+-- all runs of magazines, depots and large, each with its spot
 abbrev pub placed_runs : State → List (Spot × Run)
 placed_runs s = flat_map (λ pair. map (λ r. (pair.0, r)) pair.1.kept.runs) s.values
+
+-- nano's pages are one run, for good, where there are any; it stands at the spot of its first page
+abbrev pub nano_runs : Profile → List (Spot × Run)
+nano_runs p = if nat_lt 0 p.nano then (spot_at Nano (nano_start p * PAGE), run_at (nano_start p) p.nano) ∷ [] else []
+
+-- the runs of all places, nano's among them
+abbrev pub all_runs : Profile → State → List (Spot × Run)
+all_runs p s = placed_runs s ++ nano_runs p
 
 -- the sum of all live sizes
 abbrev pub live_size : List (Spot × Value) → ℕ

@@ -2,6 +2,7 @@
 //! empty. The lists stand in `specs/Examples.antt`.
 
 pub mod cycles;
+pub mod edges;
 pub mod rows;
 
 ghost use Rattle.std.specs.Prelude.{◌≡◌, ◌∷◌, [], ◌++◌, IsTrue};
@@ -11,7 +12,7 @@ ghost use Rattle.mz_history.specs.Places.{spot_of};
 ghost use Rattle.mz_history.specs.Rules.{in_turn, duty_first, existing, takes_lowest, takes_claimed, backs_unused, backs_allowed, moves_in_by_duty, moves_out_claimed, fits_apart, placed, live_there, no_room, zone_changes};
 ghost use Rattle.mz_history.specs.State.{live_blocks, placed_runs};
 ghost use Rattle.mz_history.specs.History.{IsLawfulHistory, breach_of, state_of, owes_nothing};
-ghost use Rattle.mz_history.specs.Examples.{profile_of, entry_of, breach_at, magazine, other_magazine, depot, large, first_region, thin_path as first_block, last_freed_block as reused_block, until_take, until_dry, dry_with_a_cache as flushed_cache};
+ghost use Rattle.mz_history.specs.Examples.{profile_of, entry_of, breach_at, magazine, other_magazine, depot, large, first_region, thin_path as first_block, last_freed_block as reused_block, half_a_region, until_dry, dry_with_a_cache as flushed_cache};
 
 /// Row `thin-path`: a first block of 112 bytes in 64 pages. It leaves that block live in its
 /// magazine, and 64 pages there, and nothing owed.
@@ -44,7 +45,7 @@ pub fn spoiled()
     ensures duty_first { breach_of (profile_of 8) until_dry ≡ breach_at 6 duty_first }
     ensures existing { breach_of (profile_of 64) (first_region 112 ++ entry_of 3 (event.New other_magazine 0 112 16) ∷ [])
         ≡ breach_at 3 existing }
-    ensures takes_lowest { breach_of (profile_of 64) (until_take 32) ≡ breach_at 2 takes_lowest }
+    ensures takes_lowest { breach_of (profile_of 64) half_a_region ≡ breach_at 2 takes_lowest }
     ensures takes_claimed { breach_of (profile_of 64) (entry_of 0 (event.Full magazine 112 16) ∷ entry_of 1 (event.Take magazine 0 64) ∷ [])
         ≡ breach_at 1 takes_claimed }
     ensures backs_unused { breach_of (profile_of 64) (entry_of 0 (event.Back large 0 3) ∷ []) ≡ breach_at 0 backs_unused }

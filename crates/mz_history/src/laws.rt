@@ -22,7 +22,7 @@ pub fn lawful_without_breach()
 {}
 
 /// A new block in a magazine: whether it is lawful, and what it leaves, depends on the magazine and
-/// the open zones alone.
+/// on which zones are open; it changes no other spot.
 pub fn locality_of_new()
     ensures { (p : Profile) (k : place) (a n al : ℕ) → is_magazine k ≡ true → IsLocal p (event.New k a n al) }
 {}

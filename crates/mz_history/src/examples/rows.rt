@@ -7,7 +7,7 @@ ghost use Rattle.mz_history.specs.declared.event.Event.TheVariants as event;
 ghost use Rattle.mz_history.specs.declared.place.Place.TheVariants as place;
 ghost use Rattle.mz_history.specs.Places.{spot_of, spot_at};
 ghost use Rattle.mz_history.specs.Rules.{duty_first, existing, takes_lowest, backs_unused, fits_apart, placed, zone_changes};
-ghost use Rattle.mz_history.specs.State.{live_blocks, placed_runs};
+ghost use Rattle.mz_history.specs.State.{live_blocks, placed_runs, all_runs};
 ghost use Rattle.mz_history.specs.History.{IsLawfulHistory, breach_of, state_of};
 ghost use Rattle.mz_history.specs.Examples.{profile_of, entry_of, breach_at, magazine, large, first_region};
 ghost use Rattle.mz_history.specs.Rows.{one_ends, not_lower, wide_reading, narrow_reading, overwritten, large_cache as served_again, until_limit, cache_limit as row_of_17, grown as block_grown, blocked, two_zones, second, zone_life as zone_of_its_own, two_nano_pages, LAST_PAGE, first_slot, slots};
@@ -60,6 +60,7 @@ pub fn zone_life()
 pub fn nano_slots()
     ensures lawful { IsLawfulHistory two_nano_pages slots }
     ensures live { live_blocks (state_of two_nano_pages slots) ≡ (spot_at place.Nano LAST_PAGE, block_at (LAST_PAGE + 48) 48) ∷ [] }
+    ensures runs { all_runs two_nano_pages (state_of two_nano_pages slots) ≡ (spot_at place.Nano (LAST_PAGE - 16384), run_at 62 2) ∷ [] }
     ensures other_size { breach_of two_nano_pages (first_slot ++ entry_of 1 (event.New place.Nano (LAST_PAGE + 64) 32 16) ∷ []) ≡ breach_at 1 placed }
     ensures overlap { breach_of two_nano_pages (first_slot ++ entry_of 1 (event.New place.Nano (LAST_PAGE + 16) 48 16) ∷ []) ≡ breach_at 1 fits_apart }
 

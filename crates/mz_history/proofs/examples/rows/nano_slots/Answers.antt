@@ -16,6 +16,10 @@ pub returns-clause-live : goal.returns-clause-live
 unfolding look_up write insert_by best_fit write_all after keeps after_all by_ticket first_breach
 returns-clause-live c = refl
 
+pub returns-clause-runs : goal.returns-clause-runs
+unfolding look_up write insert_by best_fit write_all after keeps after_all by_ticket first_breach
+returns-clause-runs c = refl
+
 pub returns-clause-other_size : goal.returns-clause-other_size
 unfolding look_up write insert_by best_fit write_all after keeps after_all by_ticket first_breach
 returns-clause-other_size c = refl

@@ -1,11 +1,14 @@
 -- Good sizes: the least size of its range that holds a request.
-use Rattle.std.proofs.Common.{◌≡◌, ℕ, ◌%◌, ◌<◌, ◌≤◌, max, arith, refl, IsTrue}
+use Rattle.std.proofs.Common.{◌≡◌, ℕ, ◌-◌, ◌*◌, ◌%◌, ◌<◌, ◌≤◌, ◌↔◌, max, arith, refl, IsTrue}
+use Rattle.std.specs.Prelude.{Some, None, IsSome, nat_le, if◌then◌else◌}
 use Rattle.std.proofs.lemmas.Bool.Decides.{nat_tests}
 use Rattle.mz_base.specs.declared.range.Range.{Range}
 use Rattle.mz_base.specs.declared.range.Range.TheVariants.{Nano, Tiny, Small, Medium, Large}
-use Rattle.mz_base.specs.Space.{least_multiple}
-use Rattle.mz_base.specs.Sizes.{route_of, unit_of, good_size_of, is_size}
-use Rattle.mz_base.specs.Laws.{IsLeastSize}
+use Rattle.mz_base.specs.declared.profile.Profile.{Profile}
+use Rattle.mz_base.specs.declared.range.TheConstants.{PAGE}
+use Rattle.mz_base.specs.Space.{least_multiple, block_at}
+use Rattle.mz_base.specs.Sizes.{route_of, unit_of, good_size_of, good_size_within, is_size}
+use Rattle.mz_base.specs.Laws.{IsLeastSize, LiesInSpace}
 use Rattle.mz_base.proofs.SpaceLemmas.{least_multiple-mod, least_multiple-above, least_multiple-least}
 
 -- every range's unit is at least 1
@@ -44,3 +47,16 @@ good_size_of_lem n = record {
   holds = good_size_of-holds n;
   least = λ t. good_size_of-least n t;
 }
+
+-- a number is there exactly where it isn't above the limit
+some-within : (m most : ℕ) → IsSome (if nat_le m most then Some m else None) ↔ (m ≤ most)
+some-within m most = (λ some. grind (arith, nat_tests), λ within. grind (arith, nat_tests))
+
+-- a profile has a good size exactly where a block of that size, from address 0 on, lies in the space
+pub good_size_within-is_some : (p : Profile) (n : ℕ) → IsSome (good_size_within p n) ↔ LiesInSpace p (block_at 0 (good_size_of n))
+good_size_within-is_some p n =
+    let g = good_size_of n in
+    let space = p.pages * PAGE in
+    let exactly : IsSome (good_size_within p n) ↔ (g ≤ space) = some-within g space in
+    let holds : max n 1 ≤ g = good_size_of-holds n in
+    (λ some a low high. let within : g ≤ space = exactly.0 some in omega arith, λ lies. let last : g - 1 < space = lies (g - 1) (omega arith) (omega arith) in exactly.1 (omega arith))

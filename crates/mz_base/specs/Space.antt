@@ -1,6 +1,11 @@
--- The byte space: addresses, blocks and runs as numbers.
-use Rattle.std.specs.Prelude.{ℕ, ◌+◌, ◌-◌, ◌*◌, ◌/◌, ◌==◌, Bool, nat_le, ◌&&◌, ◌||◌}
+-- The byte space: addresses, blocks and runs as numbers. This project's own.
+use Rattle.std.specs.Prelude.{ℕ, ◌+◌, ◌-◌, ◌*◌, ◌/◌, ◌<◌, ◌==◌, Bool, nat_le, ◌&&◌, ◌||◌}
 use Rattle.mz_base.specs.declared.range.TheConstants.{PAGE}
+use Rattle.mz_base.specs.declared.profile.Profile.{Profile}
+
+-- an address of the profile's space: a number below its bytes
+abbrev pub IsAddress : Profile → ℕ → Type 0
+IsAddress p a = a < p.pages * PAGE
 
 -- A block is its first address and its size in bytes.
 pub record Block : Type 0 where

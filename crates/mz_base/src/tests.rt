@@ -11,8 +11,7 @@ const WIDEST: Profile = Profile {
 };
 
 #[test]
-fn boundaries(rt: HostRuntime) {
-    assert!(rt; WIDEST.ok());
+fn ranges_units_and_sizes_change_where_the_table_has_it(rt: HostRuntime) {
     let rows: [(u64, Range, u64, u64, u64); 8] = [
         (0, Range::Tiny, 16, 1, 16),
         (256, Range::Tiny, 16, 16, 256),
@@ -29,7 +28,10 @@ fn boundaries(rt: HostRuntime) {
         assert_eq!(rt; units(n), count, "the units for {n}");
         assert_eq!(rt; good_size(&WIDEST, n), Some(size), "the good size for {n}");
     }
+}
 
+#[test]
+fn a_good_size_is_none_above_the_space(rt: HostRuntime) {
     let small = Profile {
         pages: 64,
         nano: 0,
@@ -42,61 +44,41 @@ fn boundaries(rt: HostRuntime) {
 }
 
 #[test]
-fn limits_of_a_profile(rt: HostRuntime) {
-    let least = Profile {
-        pages: 1,
-        callers: 1,
-        magazines: 1,
-        nano: 0,
-        most_gen: 1,
-        zones: 1,
-    };
-    assert!(rt; least.ok());
-    let beyond = [
-        Profile { pages: 0, ..least },
-        Profile {
-            callers: 0,
-            ..least
-        },
-        Profile {
-            magazines: 0,
-            ..least
-        },
-        Profile { nano: 2, ..least },
-        Profile {
-            most_gen: 0,
-            ..least
-        },
-        Profile { zones: 0, ..least },
-        Profile {
-            pages: 16_385,
-            ..WIDEST
-        },
-        Profile {
-            callers: 17,
-            ..WIDEST
-        },
-        Profile {
-            magazines: 17,
-            ..WIDEST
-        },
-        Profile {
-            nano: 1_025,
-            ..WIDEST
-        },
-        Profile {
-            most_gen: 68_719_476_736,
-            ..WIDEST
-        },
-        Profile { zones: 5, ..WIDEST },
+fn a_profile_is_ok_within_its_limits_alone(rt: HostRuntime) {
+    // Pages, callers, magazines, nano pages, the generation, zones, and whether that is ok.
+    let rows: [(u64, u32, u32, u64, u64, u32, bool); 14] = [
+        (1, 1, 1, 0, 1, 1, true),
+        (0, 1, 1, 0, 1, 1, false),
+        (1, 0, 1, 0, 1, 1, false),
+        (1, 1, 0, 0, 1, 1, false),
+        (1, 1, 1, 2, 1, 1, false),
+        (1, 1, 1, 0, 0, 1, false),
+        (1, 1, 1, 0, 1, 0, false),
+        (16_384, 16, 16, 1_024, 68_719_476_735, 4, true),
+        (16_385, 16, 16, 1_024, 68_719_476_735, 4, false),
+        (16_384, 17, 16, 1_024, 68_719_476_735, 4, false),
+        (16_384, 16, 17, 1_024, 68_719_476_735, 4, false),
+        (16_384, 16, 16, 1_025, 68_719_476_735, 4, false),
+        (16_384, 16, 16, 1_024, 68_719_476_736, 4, false),
+        (16_384, 16, 16, 1_024, 68_719_476_735, 5, false),
     ];
-    for profile in beyond {
-        assert!(rt; !profile.ok(), "{profile:?}");
+    for (pages, callers, magazines, nano, most_gen, zones, ok) in rows {
+        let profile = Profile {
+            pages,
+            callers,
+            magazines,
+            nano,
+            most_gen,
+            zones,
+        };
+        assert_eq!(rt; profile.ok(), ok, "{profile:?}");
     }
 }
 
 #[test]
-fn names_of_zones(rt: HostRuntime) -> Result<(), Fail> {
+fn a_zone_name_is_a_letter_and_at_most_fifteen_letters_or_digits(
+    rt: HostRuntime,
+) -> Result<(), Fail> {
     for text in ["z", "default", "abcdefghijklmno9"] {
         let name = ZoneName::new(text.as_bytes()).ok_or("not a name")?;
         assert_eq!(rt; name.bytes(), text.as_bytes());

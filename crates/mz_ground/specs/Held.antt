@@ -1,4 +1,4 @@
--- The facts that every span and every ground keeps.
+-- The facts that every span and every ground keeps. This project's own.
 use Rattle.std.specs.Prelude.{◌≡◌, ℕ, ◌*◌, ◌<◌, List, [], ◌∷◌, Bool, true, false, Option, MatchOption, Vec, length}
 use denote.RawPtr.{Ptr}
 use Rattle.std_alloc.specs.declared.vec.lodged.Lodged.{Lodged}

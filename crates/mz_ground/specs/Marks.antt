@@ -1,4 +1,4 @@
--- Writing over a part of a list.
+-- Writing over a part of a list. This project's own.
 use Rattle.std.specs.Prelude.{◌≡◌, ℕ, ◌+◌, List, ◌++◌, length, take, drop, replicate}
 
 -- xs with ys in the place of as many items from the n-th on

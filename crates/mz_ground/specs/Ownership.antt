@@ -1,7 +1,7 @@
--- What the parts of a span and of a ground own. A ticket stands for one byte of a space, and there is one of each.
+-- What the parts of a span and of a ground own. A ticket stands for one byte of a space, and there is one of each. This project's own.
 use Rattle.std.specs.Prelude.{ℕ, zero, suc, ◌+◌, List, [], ◌∷◌, Bool, true, false, length, take, drop}
 use base.Fraction.{full_share}
-use base.Fml.{GName, Fml, ftrue, fsep}
+use base.Fml.{GName, Fml, ftrue, fsep, fall, fwand, feq}
 use types.Keyed.{ticket}
 use denote.RawPtr.Bytes.{bytes}
 use Rattle.mz_ground.specs.Site.{Site}
@@ -14,6 +14,10 @@ tickets γ a (suc n) = fsep (ticket γ a) (tickets γ (a + 1) n)
 -- the bytes xs, which lie in the space s from its address a on
 abbrev pub lies_in : Site → ℕ → List ℕ → Fml
 lies_in s a xs = bytes full_share xs s.block (s.origin + a)
+
+-- handed all bytes of the space s, whatever they are then, this becomes what `after` says of them
+abbrev pub with_all_bytes : Site → (List ℕ → Fml) → Fml
+with_all_bytes s after = fall (List ℕ) (λ xs. fwand (fsep (feq ℕ (length xs) s.size) (lies_in s 0 xs)) (after xs))
 
 -- these bytes with their tickets
 abbrev pub plot_owns : Site → ℕ → List ℕ → Fml

@@ -1,4 +1,4 @@
--- Where the bytes of a space are.
+-- Where the bytes of a space are. This project's own.
 use Rattle.std.specs.Prelude.{◌≡◌, ℕ, ◌+◌, ◌^◌, ◌<◌, ◌≤◌}
 use denote.RawPtr.{Ptr, block_ptr}
 use Rattle.mz_ground.specs.Site.{Site}

@@ -1,4 +1,4 @@
--- Which space a span belongs to.
+-- Which space a span belongs to. This project's own.
 use Rattle.std.specs.Prelude.{ℕ, refl}
 use Rattle.std.specs.Coded.{Coded, code_by, coded×, coded_ℕ}
 

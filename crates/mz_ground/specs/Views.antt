@@ -1,4 +1,4 @@
--- What a clause sees of a span and of a ground.
+-- What a clause sees of a span and of a ground. This project's own.
 use Rattle.std.specs.Prelude.{◌≡◌, ℕ, ◌+◌, ◌≤◌, ◌⊎◌, List, Bool, ◌++◌, length, take, drop, refl}
 use Rattle.std.specs.Coded.{Coded, code_by, coded×, coded_list, coded_ℕ, coded_bool}
 use Rattle.mz_ground.specs.Site.{Site, site_code}

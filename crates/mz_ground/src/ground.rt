@@ -4,7 +4,7 @@ ghost use Rattle.std.specs.List.{AllWithin, Contains};
 ghost use Rattle.mz_ground.specs.Marks.{marked, written};
 
 use crate::Span;
-use crate::raw::{Kept, Root, lay, lift};
+use crate::raw::{Base, Kept, Root, lift};
 use std::marker::Model;
 use std::mem;
 
@@ -14,7 +14,8 @@ use std::mem;
 ///
 /// A ground that has lent nothing is dropped as its span is. Any other is forgotten.
 pub struct Ground<const Q: usize> {
-    base: *mut u8,
+    // Where its first byte lies in memory, whether it is lent or not.
+    base: Base,
     first: u64,
     lent: Vec<bool>,
     root: Option<Root>,
@@ -32,7 +33,7 @@ impl<const Q: usize> Model for Ground<Q> {
 
     ghost view = { λ g. record { space = g.kept.space; first = g.first; lent = g.lent.items; bytes = g.kept.bytes } };
 
-    ghost invariant = { λ g. IsGround Q g.base g.first g.lent.items g.root g.kept };
+    ghost invariant = { λ g. IsGround Q g.base.ptr g.first g.lent.items g.root g.kept };
 }
 
 impl<const Q: usize> Ground<Q> {
@@ -47,7 +48,7 @@ impl<const Q: usize> Ground<Q> {
         ensures bytes { result.bytes ≡ span.bytes }
     {
         let (mut bytes, first, deed, root) = span.into_parts();
-        let base = bytes.as_mut_ptr();
+        let base = Base::of(&mut bytes);
         let kept = Kept::of(lift(bytes, deed), Q, lent.len());
         Ground {
             base,
@@ -76,10 +77,9 @@ impl<const Q: usize> Ground<Q> {
         let (from, count) = (q as usize, n as usize);
         let (kept, plot) = mem::replace(&mut self.kept, Kept::none()).take(from, count);
         self.kept = kept;
-        let root = part(&mut self.root, q == 0);
+        let root = take_if(&mut self.root, q == 0);
         mark(&mut self.lent, from, count, true);
-        let start = unsafe { self.base.byte_add(Q * from) };
-        let (bytes, deed) = lay(start, Q * count, plot);
+        let (bytes, deed) = self.base.lay_behind(Q * from, Q * count, plot);
         Span::of_parts(bytes, self.first + (Q * from) as u64, deed, root)
     }
 
@@ -149,7 +149,7 @@ impl<const Q: usize> Ground<Q> {
             kept,
         } = self;
         let (_rest, plot) = kept.take(0, lent.len());
-        let (bytes, deed) = lay(base, Q * lent.len(), plot);
+        let (bytes, deed) = base.lay_behind(0, Q * lent.len(), plot);
         Ok((Span::of_parts(bytes, first, deed, root), lent))
     }
 
@@ -173,11 +173,6 @@ impl<const Q: usize> Drop for Ground<Q> {
     }
 }
 
-// What it hasn't lent nothing else can reach, and what it has lent it can't reach itself.
-unsafe impl<const Q: usize> Send for Ground<Q> {}
-
-unsafe impl<const Q: usize> Sync for Ground<Q> {}
-
 fn mark(flags: &mut Vec<bool>, q: usize, n: usize, value: bool)
     requires { q + n ≤ length flags.old.items }
     ensures { flags.new.items ≡ marked flags.old.items q n value }
@@ -185,8 +180,8 @@ fn mark(flags: &mut Vec<bool>, q: usize, n: usize, value: bool)
     flags.as_mut_slice()[q..q + n].fill(value);
 }
 
-// The root, where it goes.
-fn part(root: &mut Option<Root>, goes: bool) -> Option<Root>
+// Takes the root away where it goes, and nothing where it stays.
+fn take_if(root: &mut Option<Root>, goes: bool) -> Option<Root>
     ensures { (result ≡ (if goes then root.old else None))
         × (root.new ≡ (if goes then None else root.old)) }
 {

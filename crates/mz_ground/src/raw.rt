@@ -1,28 +1,32 @@
 //! What owns the bytes of a space. Each of these types stands for memory, or for the right to it.
 //!
-//! All but `Sole` and `Root` have no field at run time: what they say and own is for proofs alone,
-//! so moving one costs nothing. No byte is ever copied. What a raw pointer points to, and the
-//! tickets, are in these types' few functions alone, which are proved by hand: the rest of the
-//! crate is proved from their contracts.
+//! `Plot`, `Deed` and `Kept` have no field at run time: what they say and own is for proofs alone,
+//! so moving one costs nothing. No byte is ever copied. Raw pointers, and the tickets, are in the
+//! few functions of this module alone. Those that take apart or make what one of these types owns
+//! are proved by hand, and all else from their contracts.
 //!
 //! - `Plot`: bytes that nothing else can reach, with a ticket for each.
 //! - `Deed`: the tickets alone, while a `Vec` over the bytes has these.
 //! - `Sole`: a `Vec` whose bytes are out as plots. With all of them it is whole again, and frees them.
 //! - `Root`: the `Sole` of a space with its size, which goes with the space's first byte.
 //! - `Kept`: what a ground has left, the plots of the quanta that it hasn't lent.
+//! - `Base`: where the bytes of a ground begin. It owns nothing.
 ghost use Rattle.std.specs.Prelude.{◌≡◌, ℕ, ◌+◌, ◌<◌, ◌≤◌, ◌++◌, List, [], Bool, length, take, drop, vec_len};
 ghost use Rattle.std.specs.Vec.{vec_ptr, with_items};
-ghost use base.Fml.{ftrue, fex, fall, fwand, fsep, feq};
+ghost use base.Fml.{ftrue, fex, fsep, feq};
 ghost use Rattle.mz_ground.specs.Site.{Site, site_code};
-ghost use Rattle.mz_ground.specs.Ownership.{tickets, lies_in, plot_owns, kept_owns};
+ghost use Rattle.mz_ground.specs.Ownership.{tickets, with_all_bytes, plot_owns, kept_owns};
 
 use std::marker::{Model, Move, Owns};
 use std::mem::ManuallyDrop;
 
+mod base;
 mod lodging;
 mod quanta;
 
-pub(crate) use lodging::{halve, lay, lift, unite};
+pub(crate) use base::Base;
+pub(crate) use lodging::{halve, lift, unite};
+use lodging::{Laid, lay};
 
 /// Bytes that nothing else can reach, with a ticket for each.
 #[derive(Drop)]
@@ -76,23 +80,41 @@ impl Owns for Sole {
 }
 
 impl Move for Sole {
-    ghost own_val = { λ s vs. fex Inside (λ v. fsep (feq ℕ v.vec.len s.size) (fall (List ℕ) (λ xs. fwand (fsep (feq ℕ (length xs) s.size) (lies_in s 0 xs)) (Fields.own_val (record { vec = with_items v.vec xs }) vs)))) };
+    // It owns what its `Vec` owns but for the bytes, of which there are as many as the space has.
+    // Handed all bytes of the space, it owns that `Vec` again, with these as its items.
+    ghost own_val = { λ s vs. fex Inside (λ v. fsep (feq ℕ v.vec.len s.size)
+        (with_all_bytes s (λ xs. Fields.own_val (record { vec = with_items v.vec xs }) vs))) };
 }
 
 /// The right to free a space. To drop it frees nothing.
 pub(crate) struct Root {
-    pub(crate) sole: Sole,
+    sole: Sole,
     pub(crate) size: usize,
 }
 
 impl Drop for Root {
     fn drop(self) {
         let Root { sole, size: _ } = self;
+        // Others own the bytes, as plots. To drop the `Vec` would free them, so it is forgotten.
         let _leaked = unsafe { ManuallyDrop::new_unchecked(sole) };
     }
 }
 
 impl Root {
+    ghost use Rattle.mz_ground.specs.Parts.{LaidAs};
+
+    /// Makes the bytes of a `Vec` a space, and lays a `Vec` over them that doesn't free them.
+    pub(crate) fn found(mut vec: Vec<u8>) -> (Laid, Root)
+        requires { 0 < vec_len vec }
+        ensures laid { LaidAs result.0 result.1.sole 0 vec.items }
+        ensures size { (result.1.sole.size ≡ vec_len vec) × (result.1.size ≡ vec_len vec) }
+    {
+        let size = vec.len();
+        let start = vec.as_mut_ptr();
+        let (plot, sole) = Sole::found(vec);
+        (lay(start, size, plot), Root { sole, size })
+    }
+
     /// The end of the space: all its bytes go back to the memory that they came from.
     pub(crate) fn free(self, plot: Plot)
         requires { (plot.space ≡ self.sole) × (plot.first ≡ 0)
@@ -103,18 +125,24 @@ impl Root {
     }
 }
 
+// A plot owns bytes that nothing else can reach, and tickets. Neither belongs to a thread, so both
+// may go to another. It has no field, so a `&` to it reads nothing.
 unsafe impl Send for Plot {}
 
 unsafe impl Sync for Plot {}
 
+// A deed owns tickets alone, and a `&` to it reads nothing.
 unsafe impl Send for Deed {}
 
 unsafe impl Sync for Deed {}
 
+// What is kept are plots, and a `&` to it reads nothing.
 unsafe impl Send for Kept {}
 
 unsafe impl Sync for Kept {}
 
+// Its `Vec` may go to another thread, and so may the bytes that it lacks. A `&` to it gives nothing
+// of the `Vec`: no function takes one.
 unsafe impl Send for Sole {}
 
 unsafe impl Sync for Sole {}

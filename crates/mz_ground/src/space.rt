@@ -5,9 +5,10 @@ use crate::Span;
 use std::alloc::{AllocError, Global};
 
 /// The bytes of a page.
-const PAGE: u64 = 16384;
+const PAGE: u64 = 16_384;
 
 /// The bytes that all blocks of an allocator are made of.
+#[derive(Clone, Copy)]
 pub struct Space;
 
 impl Space {
@@ -15,8 +16,8 @@ impl Space {
     /// promised.
     pub fn new(alloc: Global, pages: u64) -> Result<Span, AllocError>
         ensures first { IfOk result (λ s. s.first ≡ 0) }
-        ensures len { IfOk result (λ s. length s.bytes ≡ pages * 16384) }
-        ensures size { IfOk result (λ s. s.space.size ≡ pages * 16384) }
+        ensures len { IfOk result (λ s. length s.bytes ≡ pages * PAGE) }
+        ensures size { IfOk result (λ s. s.space.size ≡ pages * PAGE) }
     {
         let Some(len) = pages.checked_mul(PAGE) else {
             return Err(AllocError);

@@ -5,7 +5,7 @@ ghost use Rattle.mz_ground.specs.Views.{AreApart, with_bytes};
 ghost use Rattle.mz_ground.specs.Held.{IsSpan};
 ghost use Rattle.mz_ground.specs.contracts.span.Span.{the_row};
 
-use crate::raw::{Deed, Root, Sole, halve, lay, lift, unite};
+use crate::raw::{Deed, Root, halve, lift, unite};
 use std::marker::Model;
 use std::mem;
 use std_alloc::vec::Lodged;
@@ -53,23 +53,21 @@ impl Drop for Span {
 
 impl Span {
     /// Makes the bytes of a `Vec` a space.
-    pub(crate) fn whole(mut vec: Vec<u8>) -> Span
+    pub(crate) fn whole(vec: Vec<u8>) -> Span
         ensures first { result.first ≡ 0 }
         ensures bytes { result.bytes ≡ vec.items }
         ensures size { result.space.size ≡ length vec.items }
     {
-        let len = vec.len();
-        if len == 0 {
+        if vec.is_empty() {
             return Span::nothing();
         }
-        let start = vec.as_mut_ptr();
-        let (plot, sole) = Sole::found(vec);
-        let (bytes, deed) = lay(start, len, plot);
+        let (laid, root) = Root::found(vec);
+        let (bytes, deed) = laid;
         Span {
             bytes,
             first: 0,
             deed,
-            root: Some(Root { sole, size: len }),
+            root: Some(root),
         }
     }
 
@@ -220,31 +218,11 @@ impl Span {
         ensures other { result.1 ≡ other }
         ensures apart { AreApart self.first (length self.bytes) other.first (length other.bytes) }
     {
-        let Span {
-            bytes,
-            first,
-            deed,
-            root,
-        } = self;
-        let Span {
-            bytes: other_bytes,
-            first: other_first,
-            deed: other_deed,
-            root: other_root,
-        } = other;
+        let (bytes, first, deed, root) = self.into_parts();
+        let (other_bytes, other_first, other_deed, other_root) = other.into_parts();
         let (deed, other_deed) = deed.apart(other_deed);
-        let span = Span {
-            bytes,
-            first,
-            deed,
-            root,
-        };
-        let other = Span {
-            bytes: other_bytes,
-            first: other_first,
-            deed: other_deed,
-            root: other_root,
-        };
+        let span = Span::of_parts(bytes, first, deed, root);
+        let other = Span::of_parts(other_bytes, other_first, other_deed, other_root);
         (span, other)
     }
 

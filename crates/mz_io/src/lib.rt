@@ -25,7 +25,7 @@ pub mod sure_source;
 
 pub use fixed_sink::FixedSink;
 pub use gate::{Gate, OpenGate};
-pub use mem_sink::{MemSink, NoMemory};
+pub use mem_sink::MemSink;
 pub use mem_source::MemSource;
 pub use sink::Sink;
 pub use source::{Failed, Source};

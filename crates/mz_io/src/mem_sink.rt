@@ -5,8 +5,7 @@ ghost use Rattle.mz_io.specs.Memory.{told, after_taking, after_failed_write};
 
 use crate::sink::Sink;
 use crate::source::Failed;
-pub use std::alloc::AllocError as NoMemory;
-use std::alloc::Global;
+use std::alloc::{AllocError, Global};
 use std::marker::Model;
 
 /// A sink in memory whose calls take little at a time and fail where they are told to. It keeps the
@@ -46,7 +45,12 @@ impl Model for MemSink {
 impl MemSink {
     /// A sink with room for so many bytes. A call takes at most `cut`, and the calls whose numbers
     /// are in `fail` fail.
-    pub fn new(alloc: Global, room: usize, cut: usize, fail: Vec<u64>) -> Result<MemSink, NoMemory>
+    pub fn new(
+        alloc: Global,
+        room: usize,
+        cut: usize,
+        fail: Vec<u64>,
+    ) -> Result<MemSink, AllocError>
         requires { 1 ≤ cut }
         ensures { IfOk result (λ sink. sink ≡ record {
           kept = [];

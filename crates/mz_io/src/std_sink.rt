@@ -1,4 +1,6 @@
-ghost use Rattle.std.specs.Prelude.{◌≡◌, None};
+ghost use Rattle.std.specs.Prelude.{◌≡◌, ◌≤◌, ◌<◌, None, IfOk, MatchResult, length};
+ghost use Rattle.mz_io.specs.Count.{HasCause, one_more};
+ghost use Rattle.mz_io.specs.Stream.{WriteTakes};
 
 use crate::sink::Sink;
 use crate::source::Failed;
@@ -8,6 +10,7 @@ use std::marker::Model;
 /// A sink over a writer of std, as standard output. It tells no bytes. Each call is one write and
 /// then one flush of the writer, so at `Ok` nothing stays behind in a writer with a buffer. An error
 /// of either is a call that failed, and so is a write that takes nothing of a piece that has bytes.
+/// Where it is the flush that fails, the writer may have taken some of the piece all the same.
 /// Contracts see how many calls have failed; the count stays once it stands at 2^64 - 1.
 #[derive(Drop)]
 pub struct StdSink<W> {
@@ -44,7 +47,14 @@ impl<W: Write> Sink for StdSink<W> {
 
     ghost faults = { λ s. s };
 
-    fn write(&mut self, piece: &[u8]) -> Result<usize, Failed> {
+    fn write(&mut self, piece: &[u8]) -> Result<usize, Failed>
+        ensures bound { IfOk result (λ n. n ≤ length piece.now) }
+        ensures some { IfOk result (λ n. 0 < length piece.now → 0 < n) }
+        ensures bytes { WriteTakes None None result piece.now }
+        ensures cause { HasCause self.old self.new result }
+
+        ensures counted { MatchResult result (λ _. self.new ≡ self.old) (λ _. self.new ≡ one_more self.old) }
+    {
         if let Ok(count) = self.writer.write(piece)
             && (count > 0 || piece.is_empty())
             && self.writer.flush().is_ok()

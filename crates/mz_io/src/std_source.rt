@@ -1,4 +1,6 @@
-ghost use Rattle.std.specs.Prelude.{◌≡◌, None};
+ghost use Rattle.std.specs.Prelude.{◌≡◌, ◌≤◌, None, IfOk, MatchResult, length};
+ghost use Rattle.std.specs.Io.KnownBytes.{ReadConsumes};
+ghost use Rattle.mz_io.specs.Count.{HasCause, one_more};
 
 use crate::source::{Failed, Source};
 use std::io::Read;
@@ -42,7 +44,13 @@ impl<R: Read> Source for StdSource<R> {
 
     ghost faults = { λ s. s };
 
-    fn read(&mut self, buf: &mut [u8]) -> Result<usize, Failed> {
+    fn read(&mut self, buf: &mut [u8]) -> Result<usize, Failed>
+        ensures bound { IfOk result (λ n. n ≤ length buf.new) }
+        ensures bytes { ReadConsumes None None result buf.new }
+        ensures cause { HasCause self.old self.new result }
+
+        ensures counted { MatchResult result (λ _. self.new ≡ self.old) (λ _. self.new ≡ one_more self.old) }
+    {
         match self.reader.read(buf) {
             Ok(count) => Ok(count),
             Err(_) => {

@@ -1,6 +1,6 @@
 use super::*;
 use std::io;
-use std::io::Read;
+use std::io::{Read, Write};
 use std::test::Fail;
 
 const UNTOUCHED: u8 = b'.';
@@ -15,12 +15,36 @@ fn write_once<K: Sink>(sink: &mut K, piece: &[u8]) -> Option<usize> {
     sink.write(piece).ok()
 }
 
-// A reader that always fails.
+// A reader that always fails, and a writer whose writes do.
 #[derive(Drop)]
 struct Broken;
 
 impl Read for Broken {
     fn read(&mut self, _buf: &mut [u8]) -> io::Result<usize> {
+        Err(io::Error::from(io::ErrorKind::Other))
+    }
+}
+
+impl Write for Broken {
+    fn write(&mut self, _bytes: &[u8]) -> io::Result<usize> {
+        Err(io::Error::from(io::ErrorKind::Other))
+    }
+
+    fn flush(&mut self) -> io::Result<()> {
+        Ok(())
+    }
+}
+
+// A writer that takes everything, and whose flushes fail.
+#[derive(Drop)]
+struct Stuck;
+
+impl Write for Stuck {
+    fn write(&mut self, bytes: &[u8]) -> io::Result<usize> {
+        Ok(bytes.len())
+    }
+
+    fn flush(&mut self) -> io::Result<()> {
         Err(io::Error::from(io::ErrorKind::Other))
     }
 }
@@ -104,6 +128,24 @@ fn a_std_sink_hands_its_bytes_to_the_writer(rt: HostRuntime) {
     assert_eq!(rt; write_once(&mut sink, b"hi"), Some(2));
     assert_eq!(rt; sink.faults(), 0);
     assert_eq!(rt; written.as_slice(), b"hi".as_slice());
+}
+
+#[test]
+fn a_write_that_fails_is_a_fault(rt: HostRuntime) {
+    let mut sink = StdSink::new(Broken);
+    assert_eq!(rt; sink.write(b"hi"), Err(Failed));
+    assert_eq!(rt; sink.faults(), 1);
+    assert_eq!(rt; sink.write(b""), Err(Failed));
+    assert_eq!(rt; sink.faults(), 2);
+}
+
+#[test]
+fn a_flush_that_fails_is_a_fault(rt: HostRuntime) {
+    let mut sink = StdSink::new(Stuck);
+    assert_eq!(rt; sink.write(b"hi"), Err(Failed));
+    assert_eq!(rt; sink.faults(), 1);
+    assert_eq!(rt; sink.write(b""), Err(Failed));
+    assert_eq!(rt; sink.faults(), 2);
 }
 
 #[test]

@@ -10,17 +10,20 @@ use std_alloc::vec::{Lodged, lodge};
 /// The bytes of a plot, under a `Vec`, and the deed of them.
 pub(crate) type Laid = (Vec<u8, Lodged>, Deed);
 
-fn house(ptr: *mut u8, len: usize, plot: Plot) -> (Vec<u8, Lodged>, Deed)
+// Hands the bytes to a `Vec` that begins at `ptr`, and keeps their tickets.
+fn house(ptr: *mut u8, len: usize, plot: Plot) -> Laid
     requires { IsAt ptr plot.space plot.first × (length plot.bytes ≡ len) × (0 < len)
         × (len < 2 ^ 63) }
     ensures { (result.0.items ≡ plot.bytes) × (vec_ptr result.0 ≡ ptr)
         × DeedOf result.1 plot.space plot.first len }
 {
+    // The plot owns just these bytes, and the `Vec` has them from here on.
     let vec = unsafe { lodge(ptr, len, len) };
     let Plot {} = plot;
     (vec, Deed {})
 }
 
+// Takes the bytes from the `Vec`, and puts them to their tickets.
 fn vacate(vec: Vec<u8, Lodged>, deed: Deed) -> Plot
     requires { (0 < vec_len vec) × (deed.count ≡ vec_len vec)
         × IsAt (vec_ptr vec) deed.space deed.first }
@@ -67,6 +70,8 @@ pub(crate) fn halve(mut vec: Vec<u8, Lodged>, deed: Deed, at: usize) -> (Laid, L
     let len = vec.len();
     let start = vec.as_mut_ptr();
     let (front, back) = lift(vec, deed).cut(at);
+    // Where no byte follows, the `Vec` may be empty and lie nowhere, where no step may be taken.
+    // `lay` doesn't look at the place then.
     let mid = if at < len {
         unsafe { start.byte_add(at) }
     } else {

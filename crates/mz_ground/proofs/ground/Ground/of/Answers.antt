@@ -14,8 +14,8 @@ invariant_of-result g c =
       first = k.first ∙ c.lift.ensures.first;
       quantum = k.quantum;
       lent = k.lent ∙ ap (λ n. replicate n false) (c.len.ensures ∙ c.args.lent.ok.0);
-      bytes = k.bytes ∙ c.lift.ensures.bytes ∙ ap (λ v. v.items) c.as_mut_ptr-base.ensures.unchanged;
+      bytes = k.bytes ∙ c.lift.ensures.bytes ∙ ap (λ v. v.items) c.of-base.ensures.unchanged;
     } in
     let F = λ (b : Ptr). IsGround g.row.Q b p.1 c.args.lent.items p.3 c.of-kept.result in
-    subst F (sym c.as_mut_ptr-base.ensures.value) (ground_of g.row.Q p.0 p.1 p.2 c.args.lent.items p.3 c.of-kept.result c.into_parts-bytes.ensures.held c.requires.filled
+    subst F (sym c.of-base.ensures.value) (ground_of g.row.Q p.0 p.1 p.2 c.args.lent.items p.3 c.of-kept.result c.into_parts-bytes.ensures.held c.requires.filled
     (ap length c.into_parts-bytes.ensures.bytes ∙ c.requires.whole) c.requires.none_lent kept)

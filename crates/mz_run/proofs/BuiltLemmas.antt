@@ -1,7 +1,7 @@
 -- The rounds of a trace whose lines are all built.
-use Rattle.std.proofs.Common.{◌≡◌, ℕ, ◌≤◌, Bool, true, false, List, [], ◌∷◌, ◌++◌, length, refl, ap, sym, subst, ◌∙◌, arith}
+use Rattle.std.proofs.Common.{◌≡◌, ℕ, ◌≤◌, Bool, true, List, [], ◌∷◌, ◌++◌, length, refl, subst, arith}
 use Rattle.std.specs.Prelude.{IsTrue, ◌&&◌, ◌==◌, nat_le, map}
-use Rattle.std.specs.List.{list_all, AllByRecursion}
+use Rattle.std.specs.List.{list_all}
 use Rattle.std.proofs.lemmas.Bool.{and_parts, and_from, false≢true, eqb-true, leb-true}
 use Rattle.mz_base.specs.declared.profile.Profile.{Profile}
 use Rattle.mz_trace.specs.declared.command.Command.{Command}
@@ -44,8 +44,8 @@ built_rounds : (rs : List Round) → HaveLists 1 rs → list_all is_built_line (
 built_rounds [] lists all = refl
 built_rounds (r ∷ rs) lists all =
     let parts = all_parts is_built_line (round_lines r) (lines_of_rounds rs) all in
-    let inner = all_parts is_built_line (map start r.lines) (map call_line (calls_from 0 r.callers)) parts.0 in
-    let here : is_built_round r ≡ true = assoc_and (length r.lines == 0) (length r.callers == 1) (list_all (list_all is_built_command) r.callers) (no_starts r.lines inner.0) (one_list r.callers lists.0 inner.1) in
+    let inner = all_parts is_built_line (map start r.lines) (map call_line (calls_from 0 r.commands)) parts.0 in
+    let here : is_built_round r ≡ true = assoc_and (length r.lines == 0) (length r.commands == 1) (list_all (list_all is_built_command) r.commands) (no_starts r.lines inner.0) (one_list r.commands lists.0 inner.1) in
     and_from (is_built_round r) (list_all is_built_round rs) here (built_rounds rs lists.1 parts.1)
 
 -- the numbers of a space that is built

@@ -3,6 +3,7 @@ use Rattle.std.proofs.Common.{◌≡◌, ◌∙◌, ◌<◌, ◌≤◌, ℕ, zer
 use Rattle.std.specs.Prelude.{◌==◌, not, option_map}
 use Rattle.std.specs.List.{list_all, position, join_with_byte}
 use Rattle.std.proofs.lemmas.Bool.{and_parts}
+use Rattle.std.proofs.lemmas.Option.{none-some, same_Some}
 use Rattle.std.proofs.lemmas.List.Folds.{list_all-append}
 use Rattle.mz_base.specs.declared.profile.Profile.{Profile}
 use Rattle.mz_trace.specs.declared.round.Round.{Round}
@@ -10,10 +11,11 @@ use Rattle.mz_trace.specs.declared.trace.Trace.{Trace}
 use Rattle.mz_trace.specs.Lines.{Line, round, start, line_words, line_fits}
 use Rattle.mz_trace.specs.Rounds.{Call, call_line, commands_by, lists_from, calls_from, IsRound, AreRounds, none, more, round_lines, lines_of_rounds, HaveLists}
 use Rattle.mz_trace.specs.Texts.{first_words, space_words, line_text, lines_text, IsTraceText, lines_of}
+use Rattle.mz_trace.proofs.CompleteLemmas.{one_trace}
 use Rattle.mz_run.specs.declared.built.Unbuilt.{Unbuilt}
-use Rattle.mz_run.specs.Built.{is_built_space, is_built_line, unbuilt_line, IsBuilt}
+use Rattle.mz_run.specs.Built.{is_built_space, is_built_line, unbuilt_line, IsBuilt, HasUnbuilt}
 use Rattle.mz_run.specs.Passing.{passed}
-use Rattle.mz_run.specs.Top.{most_bytes}
+use Rattle.mz_run.specs.Top.{most_bytes, IsRunOutput}
 use Rattle.mz_run.proofs.PassLemmas.{stop_of, stop_is_position, passed_all}
 
 -- calls that are all of caller 0 are its own
@@ -31,7 +33,7 @@ own_round : (lines : List Line) (r : Round) → IsRound 1 lines r → list_all (
 own_round lines r is fit =
     let parts : list_all (line_fits 1) (map start r.lines ++ map call_line is.calls) ≡ true = subst (λ (ls : List Line). list_all (line_fits 1) ls ≡ true) is.parts fit in
     let calls = (and_parts _ _ (sym (list_all-append (line_fits 1) (map start r.lines) (map call_line is.calls)) ∙ parts)).1 in
-    let own : calls_from 0 r.callers ≡ is.calls =
+    let own : calls_from 0 r.commands ≡ is.calls =
     ap (calls_from 0) is.lists ∙ append-nil (map (λ c. (0, c)) (commands_by 0 is.calls)) ∙ own_calls is.calls calls in
     is.parts ∙ ap (λ cs. round ∷ (map start r.lines ++ map call_line cs)) (sym own)
 
@@ -53,7 +55,7 @@ count_lists : (first callers : ℕ) (calls : List Call) → length (lists_from f
 count_lists first zero calls = refl
 count_lists first (suc n) calls = let rest = count_lists (first + 1) n calls in omega arith
 
-more_lists : (callers : ℕ) (rs : List Round) (r : Round) → HaveLists callers rs → length r.callers ≡ callers → HaveLists callers (rs ++ r ∷ [])
+more_lists : (callers : ℕ) (rs : List Round) (r : Round) → HaveLists callers rs → length r.commands ≡ callers → HaveLists callers (rs ++ r ∷ [])
 more_lists callers [] r lists here = (here, tt)
 more_lists callers (q ∷ rs) r lists here = (lists.0, more_lists callers rs r lists.1 here)
 
@@ -132,3 +134,14 @@ text_built bytes t text built =
       lines = passed_all 3 passes.0 (lines_of t) passes.1;
       lists = have_lists t.profile.callers text.lines t.rounds text.rounds;
     }
+
+-- it is the same in each reading of the bytes
+unbuilt_of : (bytes : List ℕ) (t u : Trace) (text : IsTraceText bytes t) (other : IsTraceText bytes u) → unbuilt_line t.profile text.lines ≡ unbuilt_line u.profile other.lines
+unbuilt_of bytes t u text other =
+    same_unbuilt bytes t text ∙ ap (λ x. unbuilt_line x.profile (lines_of x)) (one_trace bytes t u text other) ∙ sym (same_unbuilt bytes u other)
+
+pub unbuilt_is_one : (bytes : List ℕ) (m n : ℕ) → HasUnbuilt bytes m → HasUnbuilt bytes n → m ≡ n
+unbuilt_is_one bytes m n h k = same_Some m n (sym h.first ∙ unbuilt_of bytes h.trace k.trace h.text k.text ∙ k.first)
+
+pub never_run : (bytes output : List ℕ) (line : ℕ) → HasUnbuilt bytes line → IsRunOutput bytes output → ⊥
+never_run bytes output line h run = none-some line (sym run.built ∙ unbuilt_of bytes run.trace h.trace run.text h.text ∙ h.first)

@@ -76,7 +76,7 @@ module _ (pages gen : ℕ) (live : List Block) (f : Option Block) (a : Option De
   end_fits b stands no_room = refl
   end_fits b stands zone_changes = refl
 
--- The magazine has one region, so at most half of what an excess needs is idle: it is never in excess.
+-- The magazine has one region, so at most two thirds of what an excess needs is idle: it is never in excess.
 not_over : (u : ℕ) → nat_lt (3 * (64 * PAGE)) (2 * (64 * PAGE - u)) ≡ false
 not_over u = lt-leb (suc (3 * (64 * PAGE))) (2 * (64 * PAGE - u)) (omega arith)
 

@@ -15,7 +15,14 @@ pub mod HeldNames
 pub mod TurnLemmas
 pub mod BuiltLemmas
 pub mod RunLemmas
+pub mod RunTextLemmas
 pub mod PassLemmas
 pub mod BuiltTexts
+pub mod InputLemmas
 pub mod TopLemmas
 pub mod ReplyLemmas
+pub mod ServedTests
+pub mod UndisturbedTest
+pub mod ResizedTests
+pub mod OrderTests
+pub mod CrossingRun

@@ -1,13 +1,14 @@
 -- Entries whose tickets count up: they stand in order, and a state before one of them is what those before it leave.
-use Rattle.std.proofs.Common.{◌≡◌, ℕ, ◌+◌, ◌<◌, ◌≤◌, true, false, List, [], ◌∷◌, ◌++◌, length, refl, ap, subst, ◌∙◌, arith}
-use Rattle.std.specs.Prelude.{IsTrue, nat_lt, filter, map}
+use Rattle.std.proofs.Common.{◌≡◌, ℕ, ◌+◌, ◌<◌, ◌≤◌, true, false, List, [], ◌∷◌, ◌++◌, length, refl, ap, sym, subst, ◌∙◌, inl, inr, arith}
+use Rattle.std.specs.Prelude.{IsTrue, nat_lt, filter, map, Contains}
+use Rattle.std.proofs.lemmas.List.Elements.{Contains-append_cases, Contains-push_cases}
 use Rattle.std.proofs.lemmas.Bool.{lt-ltb, le-ltb}
 use Rattle.mz_base.specs.declared.profile.Profile.{Profile}
 use Rattle.mz_history.specs.declared.entry.Entry.{Entry}
 use Rattle.mz_history.specs.State.{State, opening, insert_by}
 use Rattle.mz_history.specs.History.{AreLawful, after_all, after_entry, by_ticket}
 use Rattle.mz_run.specs.Moments.{state_before}
-use Rattle.mz_run.specs.LawfulRun.{is_rising}
+use Rattle.mz_run.specs.Entries.{is_rising, IsBefore}
 
 -- the tickets are k, k + 1 and so on
 abbrev pub CountsFrom : ℕ → List Entry → Type 0
@@ -69,3 +70,30 @@ pub lawful-append : (p : Profile) (s : State) (es ds : List Entry) → AreLawful
 unfolding AreLawful after_all
 lawful-append p s [] ds front back = back
 lawful-append p s (e ∷ es) ds front back = (front.0, lawful-append p (after_entry p s e) es ds front.1 back)
+
+-- entries that count up in two parts
+pub counts-parts : (k : ℕ) (es ds : List Entry) → CountsFrom k (es ++ ds) → CountsFrom k es × CountsFrom (k + length es) ds
+counts-parts k [] ds counts = (tt, let same : k ≡ k + 0 = omega arith in subst (λ (n : ℕ). CountsFrom n ds) same counts)
+counts-parts k (e ∷ es) ds counts =
+    let rest = counts-parts (k + 1) es ds counts.1 in
+    let same : k + 1 + length es ≡ k + length (e ∷ es) = omega arith in
+    ((counts.0, rest.0), subst (λ (n : ℕ). CountsFrom n ds) same rest.1)
+
+within-counted : (k : ℕ) (es : List Entry) (x : Entry) → CountsFrom k es → Contains es x → (k ≤ x.ticket) × (x.ticket < k + length es)
+within-counted k [] x counts (i, low, at) = absurd (omega arith)
+within-counted k (e ∷ es) x counts contains =
+    elim (Contains-append_cases (e ∷ []) es x contains) [
+      | inl here ↦ elim (Contains-push_cases [] e x here) [
+        | inl nowhere ↦ absurd (let low = nowhere.1 in omega arith)
+        | inr same ↦ let ticket : x.ticket ≡ k = ap (λ d. d.ticket) (sym same) ∙ counts.0 in (omega (arith, ticket), omega (arith, ticket))
+      ]
+      | inr there ↦ let rest = within-counted (k + 1) es x counts.1 there in (omega (arith, rest), omega (arith, rest))
+    ]
+
+-- each of the first is before each of the others
+pub before-counted : (k : ℕ) (es ds : List Entry) → CountsFrom k (es ++ ds) → IsBefore es ds
+before-counted k es ds counts e d first other =
+    let parts = counts-parts k es ds counts in
+    let low = within-counted k es e parts.0 first in
+    let high = within-counted (k + length es) ds d parts.1 other in
+    omega (arith, low, high)

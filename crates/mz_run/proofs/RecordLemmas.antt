@@ -19,7 +19,8 @@ use Rattle.mz_run.specs.Names.{Holding, held_at}
 use Rattle.mz_run.specs.NamesMap.{block_of}
 use Rattle.mz_run.specs.Moments.{state_before, duty_left, first_some}
 use Rattle.mz_run.specs.Fitting.{IsUndisturbed, by_magazine, by_fresh_region, null_in_range, magazine_for, region_pages, events}
-use Rattle.mz_run.specs.LawfulRun.{entries_of_call, request_by, FitsRecord}
+use Rattle.mz_run.specs.Entries.{entries_of_call}
+use Rattle.mz_run.specs.LawfulRun.{request_by, FitsRecord}
 use Rattle.mz_run.specs.Session.{the_magazine, the_depot, IsSound, Turn, refused_held, served_in_region, served_in_fresh_region, not_served, refused_not_held, dropped}
 use Rattle.mz_run.proofs.OrderLemmas.{CountsFrom, state_before-counted, after_all-append, counts-append}
 use Rattle.mz_run.proofs.Standing.{space_of, Layout, untouched, parched, in_region, in_full_region, state_by, Stands}

@@ -6,8 +6,8 @@ use Rattle.mz_run.specs.declared.reply.Reply.{Reply}
 use Rattle.mz_run.specs.declared.status.Status.{Status}
 use Rattle.mz_run.specs.declared.status.Status.TheVariants.{Usage, BadInput}
 use Rattle.mz_run.specs.Built.{HasUnbuilt}
-use Rattle.mz_run.specs.Replies.{RunSays, IsSaid, whole, front}
-use Rattle.mz_run.specs.Top.{Seen, bad_trace, not_built, usage, IsUnread, UsageEnds}
+use Rattle.mz_run.specs.Replies.{IsSaid, whole, front}
+use Rattle.mz_run.specs.Top.{Seen, RunSays, bad_trace, not_built, usage, IsUnread, UsageEnds}
 
 -- a line that isn't built is refused
 pub unbuilt_said :

@@ -27,7 +27,8 @@ use Rattle.mz_run.specs.Blocks.{region_end}
 use Rattle.mz_run.specs.Built.{IsBuilt}
 use Rattle.mz_run.specs.Names.{Holding, unknown_bytes, held_at, held_after}
 use Rattle.mz_run.specs.NamesMap.{block_of}
-use Rattle.mz_run.specs.LawfulRun.{IsLawfulRun, entry_by, entries_of_call, entries_of_calls, entries_of_sections, entries_of_round, entries_of, calls_of, has_no_starts, is_rising, FitsRecord, FitsRecords}
+use Rattle.mz_run.specs.Entries.{entry_by, entries_of_call, entries_of_calls, entries_of_round, entries_of_rounds, entries_of, calls_in, calls_of, IsRising, IsRoundInOrder, AreInOrder}
+use Rattle.mz_run.specs.LawfulRun.{IsLawfulRun, has_no_starts, FitsRecords}
 use Rattle.mz_run.specs.Listing.{tail_of, listing_of, statistics_of, allocated, listed, by_address}
 use Rattle.mz_run.specs.Session.{the_magazine, bytes_in, IsSound, IsOpened, Turn, Turns, RoundsTurn, session_tail, refused_held, served_in_region, served_in_fresh_region, not_served, refused_not_held, dropped}
 use Rattle.mz_run.proofs.BuiltLemmas.{HasBuiltNumbers, built_numbers}
@@ -35,7 +36,7 @@ use Rattle.mz_run.proofs.TurnLemmas.{Turns-append}
 use Rattle.mz_run.proofs.Standing.{space_of, region_kept, rest_kept, takes, Layout, untouched, parched, in_region, in_full_region, state_by, Stands}
 use Rattle.mz_run.proofs.ByAddressLemmas.{all_listed, by_address-tiled}
 use Rattle.mz_run.proofs.LeadLemmas.{size_with_large, size_without_large}
-use Rattle.mz_run.proofs.OrderLemmas.{CountsFrom, counts-append, by_ticket-counted, rising-counted, after_all-append, lawful-append}
+use Rattle.mz_run.proofs.OrderLemmas.{CountsFrom, counts-append, counts-parts, before-counted, by_ticket-counted, rising-counted, after_all-append, lawful-append}
 use Rattle.mz_run.proofs.StandsLemmas.{turn_goes, turn_counts, turn_pages}
 use Rattle.mz_run.proofs.HeldLemmas.{held-given, held-forgotten}
 use Rattle.mz_run.proofs.RecordLemmas.{Amid, record_fits}
@@ -203,7 +204,7 @@ stands_opened : (pages : ℕ) → Stands (record { pages = pages; taken = false;
 stands_opened pages = record { layout = untouched; state = refl; taken = refl; few = λ h. absurd (false≢true h) }
 
 -- all records of the rounds
-abbrev joined : List (List CallRecord) → List CallRecord
+abbrev pub joined : List (List CallRecord) → List CallRecord
 joined rounds = flat_map (λ records. records) rounds
 
 -- the history of a run that turns made, from an opened session on
@@ -242,16 +243,16 @@ made t ds v u built opened turns =
     subst (λ (x : Profile). Made x ds u) (sym (served_space q numbers)) here
 
 -- a round in which the one caller has these records
-abbrev round_with : List CallRecord → RunRound
+abbrev pub round_with : List CallRecord → RunRound
 round_with ds = record { starts = []; callers = ds ∷ [] }
 
 -- what rounds do is what their commands do
-record Shape (v : Session) (rounds : List RunRound) (u : Session) : Type 0 where
-  lists : List (List CallRecord)
-  rounds_are : rounds ≡ map round_with lists
-  turns : Turns v (joined lists) u
+pub record Shape (v : Session) (rounds : List RunRound) (u : Session) : Type 0 where
+  pub lists : List (List CallRecord)
+  pub rounds_are : rounds ≡ map round_with lists
+  pub turns : Turns v (joined lists) u
 
-shape : (v : Session) (rounds : List RunRound) (u : Session) → RoundsTurn v rounds u → Shape v rounds u
+pub shape : (v : Session) (rounds : List RunRound) (u : Session) → RoundsTurn v rounds u → Shape v rounds u
 shape v [] u same = record { lists = []; rounds_are = refl; turns = same }
 shape v (r ∷ rs) u (w, here, rest) =
     let later = shape w rs u rest in
@@ -282,6 +283,22 @@ no_starts : (lists : List (List CallRecord)) → IsTrue (list_all has_no_starts 
 no_starts [] = refl
 no_starts (ds ∷ lists) = no_starts lists
 
+-- tickets that count up over such rounds are in order
+calls_in_order : (k : ℕ) (ds : List CallRecord) → CountsFrom k (entries_of_calls 0 ds) → (c : ℕ) → IsRising (entries_of_calls c (calls_in c (round_with ds)))
+calls_in_order k ds counts zero = rising-counted k (entries_of_calls 0 ds) counts
+calls_in_order k ds counts (suc c) = refl
+
+round_in_order : (k : ℕ) (ds : List CallRecord) → CountsFrom k (entries_of_calls 0 ds) → IsRoundInOrder (round_with ds)
+round_in_order k ds counts = record { starts = refl; calls = calls_in_order k ds counts; starts_first = λ e d (i, low, at) other. absurd (omega arith) }
+
+in_order : (k : ℕ) (lists : List (List CallRecord)) → CountsFrom k (entries_of_rounds (map round_with lists)) → AreInOrder (map round_with lists)
+in_order k [] counts = tt
+in_order k (ds ∷ lists) counts =
+    let here = entries_of_round (round_with ds) in
+    let parts = counts-parts k here (entries_of_rounds (map round_with lists)) counts in
+    let calls : CountsFrom k (entries_of_calls 0 ds) = subst (λ (x : List Entry). CountsFrom k x) (append-nil (entries_of_calls 0 ds)) parts.0 in
+    (round_in_order k ds calls, before-counted k here (entries_of_rounds (map round_with lists)) counts, in_order (k + length here) lists parts.1)
+
 -- the first caller's records fit, and no other caller has any
 by_caller : (q : Profile) (h : List Entry) (lists : List (List CallRecord)) → FitsRecords q h 0 [] (calls_of 0 (map round_with lists)) → (c : ℕ) → FitsRecords q h c [] (calls_of c (map round_with lists))
 by_caller q h lists first zero = first
@@ -301,7 +318,7 @@ lawful_with t lists u run rounds =
     record {
       trace = ap (λ x. record { profile = q; rounds = x }) rounds;
       history = subst (λ (x : List Entry). IsLawfulHistory q x) es run.history;
-      rising = subst (λ (x : List Entry). IsTrue (is_rising (map (λ e. e.ticket) x))) es (rising-counted 0 (entries_of_calls 0 (joined lists)) run.counts);
+      order = in_order 0 lists (subst (λ (x : List Entry). CountsFrom 0 x) es run.counts);
       starts = no_starts lists;
       fitting = by_caller q (entries_of (run_with q (map round_with lists))) lists first;
     }

@@ -15,7 +15,7 @@ use Rattle.mz_history.specs.Effect.{add_block, still_freed}
 use Rattle.mz_trace.specs.declared.run.CallRecord.{CallRecord}
 use Rattle.mz_run.specs.declared.session.Session.{Session}
 use Rattle.mz_run.specs.Session.{the_magazine, the_depot, bytes_in, IsSound, IsPlace, HasNoRoom, after_serving, after_dropping, Turn, refused_held, served_in_region, served_in_fresh_region, not_served, refused_not_held, dropped}
-use Rattle.mz_run.specs.LawfulRun.{entries_of_call}
+use Rattle.mz_run.specs.Entries.{entries_of_call}
 use Rattle.mz_run.proofs.Standing.{space_of, region_kept, rest_kept, at_depot, at_pages, at_large, with_values, Layout, untouched, parched, in_region, in_full_region, values_of, takes, is_parched, state_by, Stands}
 use Rattle.mz_run.proofs.EventLemmas.{deed}
 use Rattle.mz_run.proofs.OrderLemmas.{CountsFrom}

@@ -45,8 +45,8 @@ pub run_completeness :
     → before.left ≡ Some bytes → length bytes ≤ most_bytes → bad_line_of bytes ≡ None
     → ((line : ℕ) → ¬ HasUnbuilt bytes line) → (s ≡ Done) ⊎ (s ≡ NoMemory)
 run_completeness before after Done bytes ends reads writes told few good built = inl refl
-run_completeness before after No bytes ends reads writes told few good built = absurd ends
-run_completeness before after Usage bytes ends reads writes told few good built = absurd ends
+run_completeness before after No bytes ends reads writes told few good built = absurd (ends.1.2)
+run_completeness before after Usage bytes ends reads writes told few good built = absurd (ends.1.2)
 run_completeness before after BadInput bytes ends reads writes told few good built =
     let says = ends.1 in
     let same : bytes ≡ says.0 = told_input before.left after.left bytes says.0 told says.1 in
@@ -66,8 +66,8 @@ check_completeness before after No bytes ends reads writes told few good =
     let says = ends.1 in
     let same : bytes ≡ says.0 = told_input before.left after.left bytes says.0 told says.1 in
     absurd (never_bad bytes ends.0 good (subst (λ (l : List ℕ). TellsBadLine l ends.0) (sym same) says.2))
-check_completeness before after Usage bytes ends reads writes told few good = absurd ends
-check_completeness before after BadInput bytes ends reads writes told few good = absurd ends
+check_completeness before after Usage bytes ends reads writes told few good = absurd (ends.1.2)
+check_completeness before after BadInput bytes ends reads writes told few good = absurd (ends.1.2)
 check_completeness before after ReadFault bytes ends reads writes told few good = absurd (reads ends.0)
 check_completeness before after WriteFault bytes ends reads writes told few good = absurd (writes ends.3.cause)
 check_completeness before after NoMemory bytes ends reads writes told few good = inr refl
@@ -81,10 +81,14 @@ pub check_answers :
     → before.left ≡ Some bytes → length bytes ≤ most_bytes → (s ≡ Done) ⊎ ((s ≡ No) ⊎ (s ≡ NoMemory))
 check_answers before after Done bytes ends reads writes told few = inl refl
 check_answers before after No bytes ends reads writes told few = inr (inl refl)
-check_answers before after Usage bytes ends reads writes told few = absurd ends
-check_answers before after BadInput bytes ends reads writes told few = absurd ends
+check_answers before after Usage bytes ends reads writes told few = absurd (ends.1.2)
+check_answers before after BadInput bytes ends reads writes told few = absurd (ends.1.2)
 check_answers before after ReadFault bytes ends reads writes told few = absurd (reads ends.0)
 check_answers before after WriteFault bytes ends reads writes told few = absurd (writes ends.3.cause)
 check_answers before after NoMemory bytes ends reads writes told few = inr (inr refl)
 check_answers before after TooLong bytes ends reads writes told few =
     absurd (never_too_long before.left after.left bytes ends.1.bytes told few ends.1.input)
+
+-- a count that is always 0 never rises
+pub never_rises : Rose 0 0 → ⊥
+never_rises rose = let more : 1 ≤ 0 = rose in absurd (omega arith)

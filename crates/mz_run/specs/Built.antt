@@ -30,7 +30,7 @@ is_built_line (call caller command) = is_built_command command
 
 -- a round of such lines, with one list of commands
 abbrev pub is_built_round : Round → Bool
-is_built_round r = (length r.lines == 0) && (length r.callers == 1) && list_all (list_all is_built_command) r.callers
+is_built_round r = (length r.lines == 0) && (length r.commands == 1) && list_all (list_all is_built_command) r.commands
 
 -- The first line that isn't built, counted from 1: the second, which has the space, or a later one.
 abbrev pub unbuilt_line : Profile → List Line → Option ℕ

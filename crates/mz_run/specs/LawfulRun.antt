@@ -1,6 +1,6 @@
 -- When the records of a run fit, and when a run of a trace is lawful. This project's own.
-use Rattle.std.specs.Prelude.{ℕ, ◌+◌, ◌==◌, ◌≡◌, Bool, true, false, nat_lt, ◌&&◌, List, [], ◌∷◌, ◌++◌, length, map, Option, None, Some, IsTrue, MatchOption, slice_index_or}
-use Rattle.std.specs.List.{flat_map, list_all}
+use Rattle.std.specs.Prelude.{ℕ, ◌==◌, ◌≡◌, Bool, List, [], ◌∷◌, length, Option, None, Some, IsTrue, MatchOption}
+use Rattle.std.specs.List.{list_all}
 use Rattle.mz_base.specs.declared.profile.Profile.{Profile}
 use Rattle.mz_base.specs.Space.{Block}
 use Rattle.mz_history.specs.declared.entry.Entry.{Entry}
@@ -9,43 +9,15 @@ use Rattle.mz_trace.specs.declared.command.Command.{Command}
 use Rattle.mz_trace.specs.declared.command.Command.TheVariants.{Malloc, Free}
 use Rattle.mz_trace.specs.declared.answer.Answer.{Answer}
 use Rattle.mz_trace.specs.declared.answer.Answer.TheVariants as answers
-use Rattle.mz_trace.specs.declared.run.Step.{Step}
 use Rattle.mz_trace.specs.declared.run.CallRecord.{CallRecord}
 use Rattle.mz_trace.specs.declared.run.RunRound.{RunRound}
 use Rattle.mz_trace.specs.declared.run.Run.{Run}
 use Rattle.mz_trace.specs.declared.trace.Trace.{Trace}
 use Rattle.mz_trace.specs.Names.{name_word}
 use Rattle.mz_trace.specs.RunTexts.{trace_of}
+use Rattle.mz_run.specs.Entries.{entries_of_call, entries_of, calls_of, AreInOrder}
 use Rattle.mz_run.specs.Names.{Holding, held_at, held_after}
 use Rattle.mz_run.specs.Fitting.{Request, IsServed, IsUndisturbed, IsDropped}
-
--- the entry of a section's caller
-abbrev pub entry_by : ℕ → Step → Entry
-entry_by c e = record { ticket = e.ticket; caller = c; event = e.event }
-
--- the entries of a record in the section of caller c
-abbrev pub entries_of_call : ℕ → CallRecord → List Entry
-entries_of_call c d = map (entry_by c) d.steps
-
-abbrev pub entries_of_calls : ℕ → List CallRecord → List Entry
-entries_of_calls c ds = flat_map (entries_of_call c) ds
-
--- the entries of the sections of callers from c on
-abbrev pub entries_of_sections : ℕ → List (List CallRecord) → List Entry
-entries_of_sections c [] = []
-entries_of_sections c (ds ∷ sections) = entries_of_calls c ds ++ entries_of_sections (c + 1) sections
-
--- the entries of a round: those of the lines at its start, which are caller 0's, and those of the sections
-abbrev pub entries_of_round : RunRound → List Entry
-entries_of_round r = flat_map (λ d. map (entry_by 0) d.steps) r.starts ++ entries_of_sections 0 r.callers
-
--- the entries of a run, in the order of the text
-abbrev pub entries_of : Run → List Entry
-entries_of r = flat_map entries_of_round r.rounds
-
--- the records of caller c in all rounds
-abbrev pub calls_of : ℕ → List RunRound → List CallRecord
-calls_of c rounds = flat_map (λ r. slice_index_or r.callers c []) rounds
 
 -- A request by `malloc`: in the zone default, which is zone 0, at the alignment 16.
 abbrev pub request_by : ℕ → ℕ → Request
@@ -78,22 +50,16 @@ abbrev pub FitsRecords : Profile → List Entry → ℕ → List Holding → Lis
 FitsRecords p h c held [] = Unit {0}
 FitsRecords p h c held (d ∷ ds) = FitsRecord p h c held d × FitsRecords p h c (held_after held d.command d.answer) ds
 
--- each number is above the one before it
-abbrev pub is_rising : List ℕ → Bool
-is_rising [] = true
-is_rising (t ∷ []) = true
-is_rising (t ∷ u ∷ ts) = nat_lt t u && is_rising (u ∷ ts)
-
 -- no line at the start of a round
 abbrev pub has_no_starts : RunRound → Bool
 has_no_starts r = length r.starts == 0
 
--- A lawful run of a trace. With one caller, tickets rise from each entry to the next, within a record, from record to
--- record and from round to round. Other commands than `malloc` and `free` have no record that fits yet, and nor has a
--- line at the start of a round.
+-- A lawful run of a trace: its lines are the trace's, and its entries, ordered by ticket, are a lawful history; tickets
+-- rise within a round and from round to round; and each record fits. Other commands than `malloc` and `free` have no
+-- record that fits yet, and nor has a line at the start of a round.
 pub record IsLawfulRun (t : Trace) (r : Run) : Type 0 where
   pub trace : trace_of r ≡ t
   pub history : IsLawfulHistory r.profile (entries_of r)
-  pub rising : IsTrue (is_rising (map (λ e. e.ticket) (entries_of r)))
+  pub order : AreInOrder r.rounds
   pub starts : IsTrue (list_all has_no_starts r.rounds)
   pub fitting : (c : ℕ) → FitsRecords r.profile (entries_of r) c [] (calls_of c r.rounds)

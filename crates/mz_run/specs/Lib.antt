@@ -3,6 +3,7 @@ pub mod Names
 pub mod NamesMap
 pub mod Moments
 pub mod Fitting
+pub mod Entries
 pub mod Resizing
 pub mod LawfulRun
 pub mod Listing
@@ -11,3 +12,6 @@ pub mod Session
 pub mod Passing
 pub mod Top
 pub mod Replies
+pub mod Examples
+pub mod ExamplesResized
+pub mod ExamplesRounds

@@ -1,6 +1,6 @@
 -- What stands behind a printed run: the live blocks of its last state, and the statistics. The names of the statistics are
 -- libmalloc's.
-use Rattle.std.specs.Prelude.{ℕ, ◌+◌, ◌*◌, ◌==◌, nat_le, if◌then◌else◌, List, [], ◌∷◌, length, map, sum_by, codes}
+use Rattle.std.specs.Prelude.{ℕ, zero, suc, ◌+◌, ◌*◌, ◌==◌, nat_le, if◌then◌else◌, List, [], ◌∷◌, length, map, sum_by, codes}
 use Rattle.mz_base.specs.declared.profile.Profile.{Profile}
 use Rattle.mz_base.specs.declared.range.TheConstants.{PAGE}
 use Rattle.mz_base.specs.declared.range.Range.{Range}
@@ -14,15 +14,16 @@ use Rattle.mz_trace.specs.declared.run.Run.{Run}
 use Rattle.mz_trace.specs.declared.tail.Listed.{Listed}
 use Rattle.mz_trace.specs.declared.tail.Figures.{Figures}
 use Rattle.mz_trace.specs.declared.tail.Statistics.{Statistics}
-use Rattle.mz_run.specs.LawfulRun.{entries_of}
+use Rattle.mz_run.specs.Entries.{entries_of}
 
 -- the range of a spot: tiny and small are magazines and depots
 abbrev pub range_of : Spot → Range
 range_of j = if nat_le j.kind 2 then range.Tiny else (if nat_le j.kind 4 then range.Small else (if j.kind == 5 then range.Large else range.Nano))
 
--- The name of a zone. The only zone of today's traces is the one that is always open.
+-- The name of a zone. Zone 0 is `default`, and no line of today's traces opens another one and gives it a name.
 abbrev pub zone_name : ℕ → List ℕ
-zone_name z = codes "default"
+zone_name zero = codes "default"
+zone_name (suc z) = []
 
 -- a live block of a spot, as it is listed
 abbrev pub listed : Spot × Block → Listed

@@ -8,27 +8,13 @@ use Rattle.mz_run.specs.declared.input.InputError.{InputError}
 use Rattle.mz_run.specs.declared.input.InputError.TheVariants as fault
 use Rattle.mz_run.specs.declared.reply.Reply.{Reply}
 use Rattle.mz_run.specs.declared.status.Status.{Status}
-use Rattle.mz_run.specs.declared.status.Status.TheVariants.{Done, No, BadInput, ReadFault, WriteFault, NoMemory}
-use Rattle.mz_run.specs.Top.{IsInput, IsTooLong, IsRunOutput, IsRefusal, TellsBadLine, good_trace}
-use Rattle.mz_trace.specs.declared.trace.Trace.{Trace}
-use Rattle.mz_trace.specs.Texts.{IsTraceText}
+use Rattle.mz_run.specs.declared.status.Status.TheVariants.{ReadFault, WriteFault, NoMemory}
+use Rattle.mz_run.specs.Top.{IsInput, IsTooLong}
 
 -- what was read: the whole input, or one byte too many
 abbrev pub IsRead : Option (List ℕ) → Option (List ℕ) → Input → Type 0
 IsRead before after (input.Whole bytes) = IsInput before after bytes.items
 IsRead before after input.TooLong = (bytes : List ℕ) × IsTooLong before after bytes
-
--- what `run` says of a whole input
-abbrev pub RunSays : List ℕ → Status → List ℕ → Type 0
-RunSays bytes Done output = IsRunOutput bytes output
-RunSays bytes BadInput output = IsRefusal bytes output
-RunSays bytes _ output = ⊥
-
--- what `check` says of a whole input
-abbrev pub CheckSays : List ℕ → Status → List ℕ → Type 0
-CheckSays bytes Done output = (trace : Trace) × IsTraceText bytes trace × (output ≡ good_trace)
-CheckSays bytes No output = TellsBadLine bytes output
-CheckSays bytes _ output = ⊥
 
 -- a sink has taken this output, and the call ended by this status, or it failed and has taken a front
 pub data IsSaid (before after : Option (List ℕ)) (faults now : ℕ) (status : Status) (output : List ℕ) (ended : Status) : Type 0 where

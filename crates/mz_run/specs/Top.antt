@@ -8,9 +8,8 @@ use Rattle.mz_trace.specs.declared.fault.Why.{Why}
 use Rattle.mz_trace.specs.declared.run.Run.{Run}
 use Rattle.mz_trace.specs.declared.trace.Trace.{Trace}
 use Rattle.mz_trace.specs.Faults.{bad_line_of, why_number}
-use Rattle.mz_trace.specs.RunTexts.{run_text}
-use Rattle.mz_trace.specs.TailTexts.{tail_text}
-use Rattle.mz_trace.specs.Texts.{IsTraceText}
+use Rattle.mz_trace.specs.RunForms.{IsRunText}
+use Rattle.mz_trace.specs.Texts.{IsTraceText, HasTrace}
 use Rattle.mz_run.specs.declared.status.Status.{Status}
 use Rattle.mz_run.specs.declared.status.Status.TheVariants.{Done, No, Usage, BadInput, ReadFault, WriteFault, NoMemory, TooLong}
 use Rattle.mz_run.specs.Built.{unbuilt_line, HasUnbuilt}
@@ -78,6 +77,12 @@ pub record IsTooLong (before after : Option (List ℕ)) (bytes : List ℕ) : Typ
   pub read : Consumes before after bytes
   pub count : length bytes ≡ most_bytes + 1
 
+-- a source gave some of its bytes, at most one more than an input may have
+pub record IsBounded (before after : Option (List ℕ)) : Type 0 where
+  pub bytes : List ℕ
+  pub read : Consumes before after bytes
+  pub few : length bytes ≤ most_bytes + 1
+
 -- a line: its text, and a line feed
 abbrev pub line_of : List ℕ → List ℕ
 line_of text = text ++ 10 ∷ []
@@ -98,14 +103,20 @@ bad_trace line why = line_of (codes "bad trace: line " ++ decimal line ++ codes 
 abbrev pub unbuilt_why : ℕ
 unbuilt_why = 13
 
--- the output is that of a lawful run of the trace whose text the bytes are, and each of whose lines is built
+-- For every trace, number of callers and interleaving, the answers that `mzone run` prints, ordered by ticket, are one
+-- lawful history of a plain allocator: each block is large enough, aligned and apart from every live block; null comes
+-- only where each stated place is full; each caller reads its own bytes; and the blocks listed at the end are exactly
+-- those left live.
+--
+-- The output is the text of a lawful run of the trace whose text the bytes are, and each of whose lines is built, with its
+-- listing and statistics.
 pub record IsRunOutput (bytes output : List ℕ) : Type 0 where
   pub trace : Trace
   pub run : Run
   pub text : IsTraceText bytes trace
   pub built : unbuilt_line trace.profile text.lines ≡ None
   pub lawful : IsLawfulRun trace run
-  pub printed : output ≡ run_text run ++ tail_text (tail_of run)
+  pub printed : IsRunText output run (tail_of run)
 
 -- the output tells the first bad line of the bytes, which are no text of a trace
 pub record TellsBadLine (bytes output : List ℕ) : Type 0 where
@@ -131,23 +142,22 @@ pub record TellsTooLong (before after : Option (List ℕ)) (output : List ℕ) :
   pub input : IsTooLong before after bytes
   pub printed : output ≡ too_long
 
--- what `run` prints of the bytes that a source gave, by the status with which it then ends
-abbrev pub RunPrints : Option (List ℕ) → Option (List ℕ) → Status → List ℕ → Type 0
-RunPrints before after Done output = (bytes : List ℕ) × IsInput before after bytes × IsRunOutput bytes output
-RunPrints before after BadInput output = (bytes : List ℕ) × IsInput before after bytes × IsRefusal bytes output
-RunPrints before after TooLong output = TellsTooLong before after output
-RunPrints before after _ output = ⊥
+-- what `run` says of a whole input, by the status with which it then ends
+abbrev pub RunSays : List ℕ → Status → List ℕ → Type 0
+RunSays bytes Done output = IsRunOutput bytes output
+RunSays bytes BadInput output = IsRefusal bytes output
+RunSays bytes _ output = ⊥
 
--- For every trace, number of callers and interleaving, the answers that `mzone run` prints, ordered by ticket, are one
--- lawful history of a plain allocator: each block is large enough, aligned and apart from every live block; null comes
--- only where each stated place is full; each caller reads its own bytes; and the blocks listed at the end are exactly
--- those left live.
-pub record RunIsDone (before after : Seen) : Type 0 where
-  pub bytes : List ℕ
-  pub output : List ℕ
-  pub input : IsInput before.left after.left bytes
-  pub run : IsRunOutput bytes output
-  pub written : Wrote before after output
+-- what `check` says of a whole input
+abbrev pub CheckSays : List ℕ → Status → List ℕ → Type 0
+CheckSays bytes Done output = HasTrace bytes × (output ≡ good_trace)
+CheckSays bytes No output = TellsBadLine bytes output
+CheckSays bytes _ output = ⊥
+
+-- what a call says of the bytes that a source gave: that they are too many, or what it says of the whole input
+abbrev pub Says : (List ℕ → Status → List ℕ → Type 0) → Option (List ℕ) → Option (List ℕ) → Status → List ℕ → Type 0
+Says says before after TooLong output = TellsTooLong before after output
+Says says before after status output = (bytes : List ℕ) × IsInput before after bytes × says bytes status output
 
 -- an output for this status was written
 abbrev pub Printed : (Status → List ℕ → Type 0) → Seen → Seen → Status → Type 0
@@ -157,35 +167,20 @@ Printed prints before after status = (output : List ℕ) × prints status output
 abbrev pub PrintedFront : (Status → List ℕ → Type 0) → Seen → Seen → Type 0
 PrintedFront prints before after = (status : Status) × (output : List ℕ) × prints status output × IsCutShort before after output
 
--- how a run of the trace that the source gives ends, by its status
+-- How a call ends that reads its input whole, by its status. Faults of reading and want of memory end it before anything
+-- is written.
+abbrev pub CallEnds : (List ℕ → Status → List ℕ → Type 0) → Seen → Seen → Status → Type 0
+CallEnds says before after ReadFault = Rose before.read_faults after.read_faults × IsBounded before.left after.left × IsUnwritten before after
+CallEnds says before after WriteFault = PrintedFront (Says says before.left after.left) before after
+CallEnds says before after NoMemory = IsBounded before.left after.left × IsUnwritten before after
+CallEnds says before after status = Printed (Says says before.left after.left) before after status
+
+-- how a run of the trace that the source gives ends, and a check of it
 abbrev pub RunEnds : Seen → Seen → Status → Type 0
-RunEnds before after Done = RunIsDone before after
-RunEnds before after No = ⊥
-RunEnds before after Usage = ⊥
-RunEnds before after BadInput = Printed (RunPrints before.left after.left) before after BadInput
-RunEnds before after ReadFault = Rose before.read_faults after.read_faults × IsUnwritten before after
-RunEnds before after WriteFault = PrintedFront (RunPrints before.left after.left) before after
-RunEnds before after NoMemory = IsUnwritten before after
-RunEnds before after TooLong = Printed (RunPrints before.left after.left) before after TooLong
+RunEnds before after status = CallEnds RunSays before after status
 
--- what `check` prints of the bytes that a source gave, by the status with which it then ends
-abbrev pub CheckPrints : Option (List ℕ) → Option (List ℕ) → Status → List ℕ → Type 0
-CheckPrints before after Done output =
-    (bytes : List ℕ) × (trace : Trace) × IsInput before after bytes × IsTraceText bytes trace × (output ≡ good_trace)
-CheckPrints before after No output = (bytes : List ℕ) × IsInput before after bytes × TellsBadLine bytes output
-CheckPrints before after TooLong output = TellsTooLong before after output
-CheckPrints before after _ output = ⊥
-
--- how a check of the trace that the source gives ends, by its status
 abbrev pub CheckEnds : Seen → Seen → Status → Type 0
-CheckEnds before after Done = Printed (CheckPrints before.left after.left) before after Done
-CheckEnds before after No = Printed (CheckPrints before.left after.left) before after No
-CheckEnds before after Usage = ⊥
-CheckEnds before after BadInput = ⊥
-CheckEnds before after ReadFault = Rose before.read_faults after.read_faults × IsUnwritten before after
-CheckEnds before after WriteFault = PrintedFront (CheckPrints before.left after.left) before after
-CheckEnds before after NoMemory = IsUnwritten before after
-CheckEnds before after TooLong = Printed (CheckPrints before.left after.left) before after TooLong
+CheckEnds before after status = CallEnds CheckSays before after status
 
 -- the line for words that the program doesn't know
 abbrev pub usage : List ℕ

@@ -2,7 +2,9 @@
 
 ghost use Rattle.std.specs.Prelude.{◌≡◌, IfOk, OnOk, IsTrue, map};
 ghost use Rattle.std.specs.List.{list_all};
+ghost use Rattle.mz_trace.specs.RunForms.{IsRun, IsTail};
 ghost use Rattle.mz_trace.specs.RunTexts.{round_of};
+ghost use Rattle.mz_trace.specs.Texts.{IsTrace};
 ghost use Rattle.mz_run.specs.Built.{IsBuilt, is_built_round};
 ghost use Rattle.mz_run.specs.LawfulRun.{IsLawfulRun};
 ghost use Rattle.mz_run.specs.Listing.{tail_of};
@@ -23,8 +25,11 @@ pub fn serve<R: Wait + Sync, G: Gate>(
     trace: &Trace,
     gate: &G,
 ) -> Result<(Run, Figures), AllocError>
-    requires { IsBuilt trace.now }
-    ensures { IfOk result (λ pair. IsLawfulRun trace.now pair.0 × (pair.1 ≡ tail_of pair.0)) }
+    requires trace { IsTrace trace.now }
+    requires built { IsBuilt trace.now }
+    ensures lawful { IfOk result (λ pair. IsLawfulRun trace.now pair.0) }
+    ensures tail { IfOk result (λ pair. pair.1 ≡ tail_of pair.0) }
+    ensures has_text { IfOk result (λ pair. IsRun pair.0 × IsTail pair.1) }
 {
     let mut session = Session::open(alloc, trace.profile.pages);
     let rounds = serve_rounds(rt, alloc, &mut session, trace.rounds.as_slice(), gate)?;
@@ -72,7 +77,7 @@ fn serve_round<R: Wait + Sync, G: Gate>(
     ensures sound { OnOk result (IsSound session.new) }
     ensures round { IfOk result (λ r. round_of r ≡ round.now) }
 {
-    let [commands] = round.callers.as_slice() else {
+    let [commands] = round.commands.as_slice() else {
         unreachable!();
     };
     let records = session.round(rt, alloc, commands.as_slice(), gate)?;

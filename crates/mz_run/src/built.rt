@@ -75,7 +75,7 @@ fn pass_round(round: &Round, line: u64) -> Result<u64, Unbuilt>
     if !round.lines.as_slice().is_empty() {
         return Err(Unbuilt { line });
     }
-    pass_lists(round.callers.as_slice(), line)
+    pass_lists(round.commands.as_slice(), line)
 }
 
 fn pass_lists(lists: &[Commands], mut line: u64) -> Result<u64, Unbuilt>

@@ -1,8 +1,9 @@
 //! The whole input of a call.
 
-ghost use Rattle.std.specs.Prelude.{◌≡◌, ◌≤◌, IfOk, IfErr, vec_len};
+ghost use Rattle.std.specs.Prelude.{◌≡◌, ◌≤◌, IfOk, IfErr, OnErr, vec_len};
 ghost use Rattle.mz_io.specs.Count.{Rose};
 ghost use Rattle.mz_run.specs.Replies.{IsRead};
+ghost use Rattle.mz_run.specs.Top.{IsBounded};
 ghost use Rattle.mz_run.specs.declared.input.InputError.TheVariants.{Failed as source_failed, NoMemory};
 
 use mz_io::{Failed, Source};
@@ -61,6 +62,7 @@ pub fn read_input<S: Source>(alloc: Global, source: &mut S) -> Result<Input, Inp
     ensures read { IfOk result (λ input. IsRead (S.left source.old) (S.left source.new) input) }
     ensures failed { IfErr result (λ e. e ≡ InputError.Failed
         → Rose (S.faults source.old) (S.faults source.new)) }
+    ensures bounded { OnErr result (IsBounded (S.left source.old) (S.left source.new)) }
     ensures kept { S.faults source.old ≤ S.faults source.new }
 {
     let mut bytes = Vec::new(alloc);

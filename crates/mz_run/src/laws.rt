@@ -6,7 +6,7 @@ ghost use Rattle.mz_io.specs.Count.{Rose};
 ghost use Rattle.mz_run.specs.declared.status.Status.{Status as status};
 ghost use Rattle.mz_run.specs.declared.status.Status.TheVariants.{Done, No, NoMemory};
 ghost use Rattle.mz_run.specs.Built.{HasUnbuilt};
-ghost use Rattle.mz_run.specs.Top.{most_bytes, Seen, RunEnds, CheckEnds};
+ghost use Rattle.mz_run.specs.Top.{most_bytes, Seen, IsRunOutput, RunEnds, CheckEnds};
 ghost use Rattle.mz_trace.specs.Faults.{bad_line_of};
 
 /// No trace is refused: where no read and no write failed, and the source told bytes that have no bad
@@ -25,4 +25,14 @@ pub fn completeness()
         → ¬ Rose before.read_faults after.read_faults → ¬ Rose before.write_faults after.write_faults
         → before.left ≡ Some bytes → length bytes ≤ most_bytes
         → (s ≡ Done) ⊎ ((s ≡ No) ⊎ (s ≡ NoMemory)) }
+{}
+
+/// Which line is the first that isn't built is a matter of the bytes: they have no other.
+pub fn one_unbuilt_line()
+    ensures { (bytes : List ℕ) (m n : ℕ) → HasUnbuilt bytes m → HasUnbuilt bytes n → m ≡ n }
+{}
+
+/// Bytes with a line that isn't built are never run.
+pub fn unbuilt_is_not_run()
+    ensures { (bytes output : List ℕ) (line : ℕ) → HasUnbuilt bytes line → ¬ IsRunOutput bytes output }
 {}

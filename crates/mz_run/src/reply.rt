@@ -23,12 +23,7 @@ impl Reply {
     }
 
     /// A line of a trace is refused.
-    pub fn bad_trace(
-        alloc: Global,
-        status: Status,
-        line: u64,
-        why: u64,
-    ) -> Result<Reply, AllocError>
+    pub fn bad_trace(alloc: Global, status: Status, line: u64, why: u8) -> Result<Reply, AllocError>
         ensures { IfOk result (λ reply. (reply.status ≡ status) × (reply.output.items ≡ bad_trace line why)) }
     {
         let text = format!(in alloc; "bad trace: line {line}, why {why}\n")?;

@@ -1,6 +1,6 @@
 //! The one caller's commands, served one after another over the one region.
 
-ghost use Rattle.std.specs.Prelude.{◌≡◌, ◌+◌, ◌%◌, ◌<◌, ◌≤◌, true, false, None, Some, IsTrue, IfSome, IfOk, OnOk, MatchOption, map, [], ◌∷◌};
+ghost use Rattle.std.specs.Prelude.{◌≡◌, ◌+◌, ◌%◌, ◌^◌, ◌<◌, ◌≤◌, true, false, None, Some, IsTrue, IfSome, IfOk, OnOk, MatchOption, map, [], ◌∷◌};
 ghost use Rattle.std.specs.List.{list_all};
 ghost use Rattle.mz_base.specs.Names.{is_base_name};
 ghost use Rattle.mz_base.specs.Sizes.{good_size_of};
@@ -356,8 +356,10 @@ impl Session {
     /// What stands behind the run.
     pub fn tail(&self, alloc: Global) -> Result<Figures, AllocError>
         requires { IsSound self.now }
-        ensures { IfOk result (λ t. t ≡ session_tail self.now) }
+        ensures tail { IfOk result (λ t. t ≡ session_tail self.now) }
+        ensures few { self.now.tickets < 2 ^ 64 }
     {
+        let _entries = self.tickets;
         let zone = ZoneName::new(b"default").unwrap();
         let live = self.live.as_slice();
         let statistics = Statistics {
@@ -421,7 +423,7 @@ fn refused(alloc: Global, command: Command, answer: Answer) -> CallRecord
 {
     CallRecord {
         command,
-        steps: Steps::of(Vec::new(alloc)),
+        steps: Steps::new(alloc),
         answer,
     }
 }

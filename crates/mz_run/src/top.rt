@@ -1,11 +1,11 @@
 //! The whole of a call, from its words, its source and its sink to its status.
 
-ghost use Rattle.std.specs.Prelude.{◌≡◌, ◌≤◌, ◌++◌, ◌∷◌, [], ◌↔◌, IsTrue, IfOk, IfErr, codes, length, map, string_bytes};
+ghost use Rattle.std.specs.Prelude.{◌≡◌, ◌≤◌, ◌++◌, ◌∷◌, [], ◌↔◌, IsTrue, IfOk, IfErr, OnErr, codes, length, map, string_bytes};
 ghost use Rattle.mz_io.specs.Count.{Rose};
-ghost use Rattle.mz_run.specs.Replies.{RunSays, CheckSays, IsSaid, EndsWith};
+ghost use Rattle.mz_run.specs.Replies.{IsSaid, EndsWith};
 ghost use Rattle.mz_trace.specs.RunTexts.{run_text};
 ghost use Rattle.mz_trace.specs.TailTexts.{tail_text};
-ghost use Rattle.mz_run.specs.Top.{seen, most_bytes, CountsKept, RunPrints, RunEnds, CheckPrints, CheckEnds, MainEnds};
+ghost use Rattle.mz_run.specs.Top.{seen, most_bytes, CountsKept, IsBounded, RunSays, RunEnds, CheckSays, CheckEnds, MainEnds, Says};
 
 use crate::built::unbuilt_line;
 use crate::input::{Input, InputError};
@@ -19,7 +19,7 @@ use std::sync::Wait;
 use std::thread::Threads;
 
 /// The number of the why of a line that isn't built. Those of faults of a trace are below.
-const UNBUILT: u64 = 13;
+const UNBUILT: u8 = 13;
 
 /// The output for a good trace.
 const GOOD_TRACE: &[u8] = b"ok\n";
@@ -49,7 +49,7 @@ pub enum Tool {
 fn print_whole(alloc: Global, run: &Run, figures: Figures) -> Result<Vec<u8>, AllocError>
     ensures { IfOk result (λ output. output.items ≡ run_text run.now ++ tail_text figures) }
 {
-    let mut output = print_run(alloc, run)?.into_bytes();
+    let mut output = print_run(alloc, run)?;
     let tail = Tail::new(alloc, figures)?;
     output.extend_from_slice(tail.bytes())?;
     Ok(output)
@@ -68,7 +68,7 @@ fn run_bytes<R: Wait + Sync, G: Gate>(
     let trace = match parse(alloc, bytes) {
         Ok(trace) => trace,
         Err(TraceFault::Bad { line, why }) => {
-            return Reply::bad_trace(alloc, Status::BadInput, line, why.number());
+            return Reply::bad_trace(alloc, Status::BadInput, line, why);
         }
         Err(TraceFault::NoMemory) => return Err(AllocError),
     };
@@ -90,9 +90,10 @@ fn run_reply<R: Wait + Sync, S: Source, G: Gate>(
     source: &mut S,
     gate: &G,
 ) -> Result<Reply, InputError>
-    ensures says { IfOk result (λ reply. RunPrints (S.left source.old) (S.left source.new) reply.status reply.output.items) }
+    ensures says { IfOk result (λ reply. Says RunSays (S.left source.old) (S.left source.new) reply.status reply.output.items) }
     ensures failed { IfErr result (λ e. e ≡ InputError.Failed
         → Rose (S.faults source.old) (S.faults source.new)) }
+    ensures bounded { OnErr result (IsBounded (S.left source.old) (S.left source.new)) }
     ensures kept { S.faults source.old ≤ S.faults source.new }
 {
     let reply = match input::read_input(alloc, source)? {
@@ -108,18 +109,17 @@ fn check_bytes(alloc: Global, bytes: &[u8]) -> Result<Reply, AllocError>
 {
     match parse(alloc, bytes) {
         Ok(_trace) => Reply::new(alloc, Status::Done, GOOD_TRACE),
-        Err(TraceFault::Bad { line, why }) => {
-            Reply::bad_trace(alloc, Status::No, line, why.number())
-        }
+        Err(TraceFault::Bad { line, why }) => { Reply::bad_trace(alloc, Status::No, line, why) }
         Err(TraceFault::NoMemory) => Err(AllocError),
     }
 }
 
 /// Reads the whole input, and checks it.
 fn check_reply<S: Source>(alloc: Global, source: &mut S) -> Result<Reply, InputError>
-    ensures says { IfOk result (λ reply. CheckPrints (S.left source.old) (S.left source.new) reply.status reply.output.items) }
+    ensures says { IfOk result (λ reply. Says CheckSays (S.left source.old) (S.left source.new) reply.status reply.output.items) }
     ensures failed { IfErr result (λ e. e ≡ InputError.Failed
         → Rose (S.faults source.old) (S.faults source.new)) }
+    ensures bounded { OnErr result (IsBounded (S.left source.old) (S.left source.new)) }
     ensures kept { S.faults source.old ≤ S.faults source.new }
 {
     let reply = match input::read_input(alloc, source)? {
@@ -184,7 +184,11 @@ fn check_trace<S: Source, K: Sink>(alloc: Global, source: &mut S, sink: &mut K) 
     end(sink, reply)
 }
 
-/// Does one job.
+/// Runs the trace that the source gives, and prints what became of each of its commands, and what is
+/// live at the end. The gate is passed before each command. Any call may end with want of memory.
+///
+/// This is the call that carries the program's promise: what it prints is one lawful history of a
+/// plain allocator.
 pub fn run_call<R: Threads + Wait + Sync, S: Source, K: Sink, G: Gate>(
     rt: &R,
     alloc: Global,
@@ -205,7 +209,7 @@ pub fn run_call<R: Threads + Wait + Sync, S: Source, K: Sink, G: Gate>(
     }
 }
 
-/// Does one job that needs no threads.
+/// Tells what the tool finds in what the source gives. It waits for nobody.
 pub fn tool_call<S: Source, K: Sink>(
     alloc: Global,
     tool: &Tool,

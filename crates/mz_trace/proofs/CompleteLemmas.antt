@@ -24,9 +24,9 @@ use Rattle.mz_trace.specs.Texts.{line_text, lines_text, first_words, space_words
 use Rattle.std.specs.Prelude.{Result, Ok, Err, MatchResult, ◌↔◌}
 use Rattle.mz_trace.specs.declared.fault.TraceFault.{TraceFault}
 use Rattle.mz_trace.specs.declared.fault.TraceFault.TheVariants.{Bad, NoMemory}
-use Rattle.mz_trace.specs.Faults.{BadLine, Fails}
+use Rattle.mz_trace.specs.Faults.{BadLine}
 use Rattle.mz_trace.specs.Texts.{HasTrace}
-use Rattle.mz_trace.specs.RawLines.{ComesTo}
+use Rattle.mz_trace.specs.RawLines.{ComesTo, HasNumbers}
 use Rattle.mz_trace.proofs.FoundLemmas.{has_trace}
 use Rattle.mz_trace.proofs.LineReading.{IsRight, AreRight, line_form, line_fields}
 use Rattle.mz_trace.proofs.LineWriting.{IsWritten, written}
@@ -273,13 +273,13 @@ pub one_trace : (bytes : List ℕ) (t u : Trace) → IsTraceText bytes t → IsT
 one_trace bytes t u h k = some_same (trace_in (cuts bytes)) t u (complete bytes t h).trace (complete bytes u k).trace
 
 -- what is read of a text of a trace is that trace
-fault_of_text : (f : TraceFault) → Fails None f → f ≡ NoMemory
+fault_of_text : (f : TraceFault) → HasNumbers None f → f ≡ NoMemory
 fault_of_text NoMemory h = refl
 fault_of_text (Bad line why) h = absurd cc
 
 pub only : (bytes : List ℕ) (t : Trace) (r : Result Trace TraceFault) → IsTraceText bytes t → ComesTo (bad_line_of bytes) (trace_in (cuts bytes)) r → MatchResult r (λ u. u ≡ t) (λ e. e ≡ NoMemory)
 only bytes t (Ok u) text h = some_same (trace_in (cuts bytes)) u t h.1 (complete bytes t text).trace
-only bytes t (Err e) text h = fault_of_text e (subst (λ (b : Option BadLine). Fails b e) (complete bytes t text).good h)
+only bytes t (Err e) text h = fault_of_text e (subst (λ (b : Option BadLine). HasNumbers b e) (complete bytes t text).good h)
 
 -- a text is one of a trace exactly where it has no bad line
 pub without_bad_line : (bytes : List ℕ) → (bad_line_of bytes ≡ None) ↔ HasTrace bytes

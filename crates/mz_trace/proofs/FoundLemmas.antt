@@ -23,8 +23,9 @@ use Rattle.mz_trace.specs.Reading.{fields_why, place_why, form_why, words_why, r
 use Rattle.mz_trace.specs.Texts.{line_text, lines_text, first_words, space_words, IsTraceText, HasTrace}
 use Rattle.std.specs.Prelude.{Result, Ok, Err, IfOk, OnOk, IfErr}
 use Rattle.mz_trace.specs.declared.fault.TraceFault.{TraceFault}
-use Rattle.mz_trace.specs.Faults.{Fails}
-use Rattle.mz_trace.specs.RawLines.{ComesTo}
+use Rattle.mz_trace.specs.declared.fault.TraceFault.TheVariants.{Bad, NoMemory}
+use Rattle.mz_trace.specs.Faults.{Fails, TellsBadLine, why_number}
+use Rattle.mz_trace.specs.RawLines.{ComesTo, HasNumbers, numbers_of}
 use Rattle.mz_trace.proofs.NumberLemmas.{decimal-value_of}
 use Rattle.mz_trace.proofs.WhyLemmas.{line_of_words}
 use Rattle.mz_trace.proofs.LaterLemmas.{why_of-plain, why_of-not_plain}
@@ -260,9 +261,23 @@ pub is_good : (bytes : List ℕ) (r : Result Trace TraceFault) → ComesTo (bad_
 is_good bytes (Ok t) h = h.0
 is_good bytes (Err e) h = tt
 
+-- the numbers of a bad line tell it
+abbrev bad_at : ℕ → Why → BadLine
+bad_at n y = (n, y)
+
+tells : (bad : Option BadLine) (line why : ℕ) → numbers_of bad ≡ Some (line, why) → TellsBadLine bad line why
+tells None line why e = absurd cc
+tells (Some b) line why e =
+    let same = some_is (b.0, why_number b.1) (line, why) e in
+    record { first = b.1; bad_line = ap (λ (n : ℕ). Some (bad_at n b.1)) (ap (λ (p : ℕ × ℕ). p.0) same); number = sym (ap (λ (p : ℕ × ℕ). p.1) same) }
+
+fails : (bad : Option BadLine) (f : TraceFault) → HasNumbers bad f → Fails bad f
+fails bad NoMemory h = tt
+fails bad (Bad line why) h = tells bad line why h
+
 pub is_bad : (bytes : List ℕ) (r : Result Trace TraceFault) → ComesTo (bad_line_of bytes) (trace_in (cuts bytes)) r → IfErr r (Fails (bad_line_of bytes))
 is_bad bytes (Ok t) h = tt
-is_bad bytes (Err e) h = h
+is_bad bytes (Err e) h = fails (bad_line_of bytes) e h
 
 -- a text without a bad line has a trace
 second_profile : (l : Cut) → why_of second l ≡ None → (p : Profile) × (profile_in (words_of l.text) ≡ Some p)

@@ -14,9 +14,8 @@ use Rattle.std.proofs.lemmas.Slice.Eq.{bytes_eq-Decides}
 use Rattle.std.proofs.lemmas.Map.Text.{is_eq-slice_cmp}
 use Rattle.mz_trace.specs.declared.command.Command.{Command}
 use Rattle.mz_trace.specs.declared.command.Command.TheVariants.{Give}
-use Rattle.mz_trace.specs.Lines.{command_gives}
+use Rattle.mz_trace.specs.Lines.{given_by, command_gives}
 use Rattle.mz_trace.specs.RunNames.{has_name, with_name}
-use Rattle.mz_trace.specs.RunLines.{given_by}
 use Rattle.mz_trace.proofs.RunReads.{given_after, is_fresh, all_fresh}
 
 -- a name that is neither among names nor the one that comes in isn't among them afterwards

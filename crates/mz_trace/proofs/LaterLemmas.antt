@@ -1,5 +1,5 @@
 -- The first why of a later line, and the lines one after the other.
-use Rattle.std.proofs.Common.{◌≡◌, ℕ, ◌+◌, Bool, true, false, List, [], ◌∷◌, length, eqb, cond, refl, sym, ap, ◌∙◌, Option, Some, None}
+use Rattle.std.proofs.Common.{◌≡◌, ℕ, Bool, true, false, List, [], ◌∷◌, length, eqb, cond, refl, sym, ap, ◌∙◌, Option, Some, None}
 use Rattle.std.specs.Prelude.{not, Result, Ok, Err, IfOk}
 use Rattle.mz_trace.specs.declared.reader.Reader.{Reader}
 use Rattle.mz_trace.specs.RawLines.{HasRead, ReadsLine, ReadsCut, rounds_in}
@@ -37,12 +37,7 @@ why_of-plain callers before l plain = go (form_of (words_of l.text)) refl where
 pub why_of-not_plain : (callers : ℕ) (before : List (List (List ℕ))) (l : Cut) → is_plain l ≡ false → why_of (later callers before) l ≡ Some NotPlain
 why_of-not_plain callers before l e = rw e refl
 
--- one more line, which is good, and one that is bad
-pub bad_later-good :
-    (callers : ℕ) (before : List (List (List ℕ))) (number : ℕ) (l : Cut) (ls : List Cut) → why_of (later callers before) l ≡ None
-    → bad_later callers before number (l ∷ ls) ≡ bad_later callers (words_of l.text ∷ before) (number + 1) ls
-bad_later-good callers before number l ls e = rw e refl
-
+-- one more line, which is bad
 pub bad_later-bad :
     (callers : ℕ) (before : List (List (List ℕ))) (number : ℕ) (l : Cut) (ls : List Cut) (y : Why) → why_of (later callers before) l ≡ Some y
     → bad_later callers before number (l ∷ ls) ≡ Some (number, y)
@@ -67,16 +62,6 @@ pub record IsBehind (callers : ℕ) (all : List Cut) (number : ℕ) (left : List
 
 pub starts : (callers : ℕ) (all : List Cut) (r : Reader) → HasRead callers [] r → IsBehind callers all 3 all r
 starts callers all r h = record { before = []; has = h; bad = refl; words = refl }
-
-pub goes_on :
-    (callers : ℕ) (all : List Cut) (number : ℕ) (left : List Cut) (l : Cut) (ls : List Cut) (old new : Reader) (h : IsBehind callers all number left old)
-    → left ≡ l ∷ ls → ReadsCut callers h.before l new None → IsBehind callers all (number + 1) ls new
-goes_on callers all number left l ls old new h e r = record {
-  before = words_of l.text ∷ h.before;
-  has = r.read refl;
-  bad = rw e at h.bad ∙ bad_later-good callers h.before number l ls (sym r.first);
-  words = rw e at h.words;
-}
 
 pub stops :
     (callers : ℕ) (all : List Cut) (number : ℕ) (left : List Cut) (l : Cut) (ls : List Cut) (old new : Reader) (y : Why) (h : IsBehind callers all number left old)

@@ -38,3 +38,9 @@ pub mod RunWordsSpelled
 pub mod RunStands
 pub mod RunSound
 pub mod RunTextSound
+pub mod RunFronts
+pub mod FirstBadLine
+pub mod RunClosings
+pub mod RunCompletions
+pub mod TraceOfRun
+pub mod LongLines

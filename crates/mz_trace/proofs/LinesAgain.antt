@@ -57,13 +57,13 @@ words_again w (v ∷ ws) h =
 abbrev pub line_of : List (List ℕ) → Cut
 line_of words = record { text = join_with_byte 32 words; ended = true }
 
-cut_off : (t rest : List ℕ) → list_all (λ b. not (eqb b 10)) t ≡ true → cuts (t ++ 10 ∷ rest) ≡ record { text = t; ended = true } ∷ cuts rest
+pub cut_off : (t rest : List ℕ) → list_all (λ b. not (eqb b 10)) t ≡ true → cuts (t ++ 10 ∷ rest) ≡ record { text = t; ended = true } ∷ cuts rest
 cut_off [] rest h = refl
 cut_off (b ∷ bs) rest h =
     let parts = and_parts (not (eqb b 10)) (list_all (λ x. not (eqb x 10)) bs) h in
     rw (not-true (eqb b 10) parts.0) (ap (longer b) (cut_off bs rest parts.1))
 
-abbrev no_feeds : List ℕ → Bool
+abbrev pub no_feeds : List ℕ → Bool
 no_feeds t = list_all (λ b. not (eqb b 10)) t
 
 word_no_feeds : (w : List ℕ) → list_all is_solid w ≡ true → no_feeds w ≡ true
@@ -78,7 +78,7 @@ no_feeds-append (b ∷ bs) t h k =
     let parts = and_parts (not (eqb b 10)) (no_feeds bs) h in
     and_from _ _ parts.0 (no_feeds-append bs t parts.1 k)
 
-line_no_feeds : (ws : List (List ℕ)) → are_solid ws ≡ true → no_feeds (join_with_byte 32 ws) ≡ true
+pub line_no_feeds : (ws : List (List ℕ)) → are_solid ws ≡ true → no_feeds (join_with_byte 32 ws) ≡ true
 line_no_feeds [] h = refl
 line_no_feeds (w ∷ []) h = word_no_feeds w (and_parts (list_all is_solid w) true h).0
 line_no_feeds (w ∷ v ∷ ws) h =

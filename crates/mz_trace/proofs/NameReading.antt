@@ -49,9 +49,6 @@ dot_parts (b ∷ bs) lt =
           rw further (rw s (ap (λ (x : List ℕ). b ∷ x) (dot_parts bs shorter)))
     ]
 
-abbrev Past : List ℕ → Type 0
-Past w = drop (at_dot w + 1) w ≡ []
-
 no_number : (w : List ℕ) → w ≡ [] → is_number w ≡ true → ⊥
 no_number w e num = both_ways (is_number w) (rw e refl) num
 

@@ -78,9 +78,6 @@ batch_of-word b e =
     rw at (rw long (rw (take-append_seam b.base (46 ∷ decimal b.index)) (rw (base_of_base b.base both.0) (rw (drop_after b.base (decimal b.index)) (rw (number_from-decimal 0 4095 b.index (omega (arith, lt)) (below_index b.index both.1)) refl)))))
 
 -- a given name is of no other form
-pub base_of-given : (g : GivenName) → base_of (given_word g) ≡ None
-base_of-given g = refl
-
 no_batch : (w : List ℕ) → is_batch_name (64 ∷ w) ≡ false
 no_batch w = rw (at_dot-cons 64 w refl) refl
 

@@ -42,8 +42,8 @@ lists_again first (cs ∷ lists) =
     rw (own_commands first cs (calls_from (first + 1) lists), no_commands first (first + 1) lists (omega arith), append-nil cs, other_lists (first + 1) (length lists) first cs (calls_from (first + 1) lists) (omega arith), lists_again (first + 1) lists) refl
 
 -- the lines of rounds in normal form make those rounds
-normal_round : (callers : ℕ) (r : Round) → length r.callers ≡ callers → IsRound callers (round_lines r) r
-normal_round callers r e = record { calls = calls_from 0 r.callers; parts = refl; lists = rw (← e) (sym (lists_again 0 r.callers)) }
+normal_round : (callers : ℕ) (r : Round) → length r.commands ≡ callers → IsRound callers (round_lines r) r
+normal_round callers r e = record { calls = calls_from 0 r.commands; parts = refl; lists = rw (← e) (sym (lists_again 0 r.commands)) }
 
 normal_more : (callers : ℕ) (rs : List Round) (front : List Line) (before : List Round) → HaveLists callers rs → AreRounds callers front before → AreRounds callers (front ++ lines_of_rounds rs) (before ++ rs)
 normal_more callers [] front before h a = rw (append-nil front, append-nil before) a
@@ -60,6 +60,9 @@ normal_is_text t h = record {
   rounds = normal_more t.profile.callers t.rounds [] [] h.lists none;
   few = h.few;
 }
+
+pub printed_is_text : (t : Trace) (bytes : List ℕ) → bytes ≡ normal_text t → IsTrace t → IsTraceText bytes t
+printed_is_text t bytes e h = subst (λ (bs : List ℕ). IsTraceText bs t) (sym e) (normal_is_text t h)
 
 -- lines of rounds have the same lines as their normal form, each as often
 count_calls : (p : Line → Bool) (caller : ℕ) (c : ℕ) (k : Command) (cs : List Call) → count_by p (map call_line (of_caller caller (commands_by caller ((c, k) ∷ cs)))) ≡ cond (eqb c caller) (cond (p (call caller k)) 1 0) 0 + count_by p (map call_line (of_caller caller (commands_by caller cs)))
@@ -138,11 +141,11 @@ count_round_lines : (p : Line → Bool) (callers : ℕ) (ls : List Line) (r : Ro
 count_round_lines p callers ls r e h =
     let fit : list_all (line_fits callers) (map start r.lines ++ map call_line h.calls) ≡ true = rw h.parts at e in
     let both = and_parts _ _ (sym (list_all-append (line_fits callers) (map start r.lines) (map call_line h.calls)) ∙ fit) in
-    let same : count_by p (map call_line (calls_from 0 r.callers)) ≡ count_by p (map call_line h.calls) = rw h.lists (count_all p callers h.calls both.1) in
+    let same : count_by p (map call_line (calls_from 0 r.commands)) ≡ count_by p (map call_line h.calls) = rw h.lists (count_all p callers h.calls both.1) in
     let a = count_by-append p (map start r.lines) (map call_line h.calls) in
-    let b = count_by-append p (map start r.lines) (map call_line (calls_from 0 r.callers)) in
-    let inner : count_by p (map start r.lines ++ map call_line h.calls) ≡ count_by p (map start r.lines ++ map call_line (calls_from 0 r.callers)) = omega (arith, a, b, same) in
-    rw h.parts (count_more p round (map start r.lines ++ map call_line h.calls) ∙ ap (λ n. cond (p round) (n + 1) n) inner ∙ sym (count_more p round (map start r.lines ++ map call_line (calls_from 0 r.callers))))
+    let b = count_by-append p (map start r.lines) (map call_line (calls_from 0 r.commands)) in
+    let inner : count_by p (map start r.lines ++ map call_line h.calls) ≡ count_by p (map start r.lines ++ map call_line (calls_from 0 r.commands)) = omega (arith, a, b, same) in
+    rw h.parts (count_more p round (map start r.lines ++ map call_line h.calls) ∙ ap (λ n. cond (p round) (n + 1) n) inner ∙ sym (count_more p round (map start r.lines ++ map call_line (calls_from 0 r.commands))))
 
 pub count_normal : (p : Line → Bool) (callers : ℕ) (ls : List Line) (rs : List Round) → list_all (line_fits callers) ls ≡ true → AreRounds callers ls rs → count_by p ls ≡ count_by p (lines_of_rounds rs)
 count_normal p callers ls rs e none = refl
@@ -167,7 +170,7 @@ all_pass q (x ∷ xs) e = passes (q x) (all_pass q xs) (sym (count_more (λ y. n
   passes true f h = f h
   passes false f h = absurd (omega arith)
 
-have_more : (callers : ℕ) (rs : List Round) (r : Round) → HaveLists callers rs → length r.callers ≡ callers → HaveLists callers (rs ++ r ∷ [])
+have_more : (callers : ℕ) (rs : List Round) (r : Round) → HaveLists callers rs → length r.commands ≡ callers → HaveLists callers (rs ++ r ∷ [])
 have_more callers [] r h e = (e, tt)
 have_more callers (s ∷ rs) r h e = (h.0, have_more callers rs r h.1 e)
 

@@ -1,15 +1,17 @@
 -- Numbers as words: what their digits stand for, and that each is written in one way.
-use Rattle.std.proofs.Common.{◌≡◌, ℕ, ◌+◌, ◌-◌, ◌*◌, ◌^◌, ◌<◌, ◌≤◌, true, false, List, [], ◌∷◌, length, take, get_or, ltb, arith, rules, refl, ap, ◌∙◌, inl, inr}
+use Rattle.std.proofs.Common.{◌≡◌, ℕ, ◌^◌, ◌<◌, ◌≤◌, true, false, List, [], ◌∷◌, length, get_or, ltb, cond, arith, rules, refl, inl, inr, Some, None, Result, Ok, Err}
 use Rattle.std.specs.Prelude.{not, ◌&&◌}
 use Rattle.std.specs.List.{list_all}
 use Rattle.std.specs.Fmt.{decimal}
-use Rattle.std.specs.Str.Parse.{digits_value}
+use Rattle.std.specs.Result.{OkIff, result_ok}
+use Rattle.std.specs.Str.{IsAscii, IsUtf8}
+use Rattle.std.specs.Str.Parse.{digits_value, ParsesUnsigned}
 use Rattle.std.proofs.lemmas.Bool.{and_parts, and_from, le-ltb, lt-ltb, ltb-true, not-true, not_from_false, cases_lt, ne_eqb}
 use Rattle.std.proofs.lemmas.Bool.Decides.{nat_tests}
-use Rattle.std.proofs.lemmas.List.{take_all}
-use Rattle.std.proofs.lemmas.Str.{digit_value_digit}
-use Rattle.std.proofs.lemmas.Str.Parse.{IsNumeralModel, IsDigitsTest, numerals_by_value, digit_at, digits_value-take-le}
-use Rattle.std.proofs.lemmas.Int.Digits.{digits_value_more}
+use Rattle.std.proofs.lemmas.Result.{OkIff-at_ok, OkIff-at_err}
+use Rattle.std.proofs.lemmas.Str.{IsUtf8-from_ascii}
+use Rattle.std.proofs.lemmas.Str.Ascii.{IsAscii-nil, IsAscii-cons}
+use Rattle.std.proofs.lemmas.Str.Parse.{IsNumeralModel, IsDigitsTest, numerals_by_value, parse_digits}
 use Rattle.std.proofs.lemmas.Fmt.{digits_decimal, digits_value-decimal, decimal-digits_value, decimal_nonempty, first_decimal, decimal_digit}
 use Rattle.mz_base.specs.Names.{is_digit}
 use Rattle.mz_trace.specs.Numbers.{value_of, are_digits, has_leading_zero, is_number}
@@ -31,28 +33,31 @@ pub some_digit : (w : List ℕ) → are_digits w ≡ true → 0 < length w
 some_digit [] e = grind arith
 some_digit (c ∷ cs) e = omega arith
 
--- one more digit of a word
-pub value_more :
-    (w : List ℕ) (i n : ℕ) → are_digits w ≡ true → i < length w → n ≡ value_of (take i w)
-    → n * 10 + (get_or w i 0 - 48) ≡ value_of (take (i + 1) w)
-value_more w i n digits lt so_far =
-    let more = digits_value_more 10 w i lt in
-    let range = digit_at w i (own.to w (all_digits w digits)) lt in
-    let digit = digit_value_digit (get_or w i 0) range in
-    omega (arith, more, digit, so_far)
+-- digits are text
+digits-IsAscii : (w : List ℕ) → IsDigits w → IsAscii w
+digits-IsAscii [] e = IsAscii-nil
+digits-IsAscii (c ∷ cs) e =
+    IsAscii-cons c cs (grind (arith, nat_tests)) (digits-IsAscii cs (grind (arith, nat_tests)))
 
--- a front of the digits that is too large makes the whole too large
-pub value_overflows :
-    (w : List ℕ) (i n : ℕ) → are_digits w ≡ true → i < length w → n ≡ value_of (take i w)
-    → 2 ^ 64 ≤ n * 10 + (get_or w i 0 - 48) → ltb (value_of w) (2 ^ 64) ≡ false
-value_overflows w i n digits lt so_far large =
-    let more = value_more w i n digits lt so_far in
-    let most = digits_value-take-le 10 w (i + 1) (omega arith) in
-    le-ltb _ _ (omega (arith, more, most, large))
+pub digits-IsUtf8 : (w : List ℕ) → are_digits w ≡ true → IsUtf8 w
+digits-IsUtf8 w e = IsUtf8-from_ascii w (digits-IsAscii w (all_digits w e))
 
--- all digits
-pub value_whole : (w : List ℕ) (i n : ℕ) → length w ≤ i → n ≡ value_of (take i w) → n ≡ value_of w
-value_whole w i n le so_far = so_far ∙ ap value_of (take_all i w le)
+-- what the library reads of digits
+decided : {E : Type 0} (n v : ℕ) (r : Result ℕ E) → 0 < n → OkIff r ((0 < n) × (v < 2 ^ 64)) v → result_ok r ≡ cond (ltb v (2 ^ 64)) (Some v) None
+decided {E} n v (Ok x) some h =
+    let read = OkIff-at_ok {E = E} (Ok x) ((0 < n) × (v < 2 ^ 64)) v x h refl in
+    rw (read.1, lt-ltb v (2 ^ 64) read.0.1) refl
+decided {E} n v (Err e) some h =
+    let large : 2 ^ 64 ≤ v = elim (cases_lt v (2 ^ 64)) [
+      | inl lt ↦ absurd (OkIff-at_err (Err e) ((0 < n) × (v < 2 ^ 64)) v e h refl (some, lt))
+      | inr le ↦ le
+    ] in
+    rw (le-ltb v (2 ^ 64) large) refl
+
+pub parsed_value :
+    {E : Type 0} (w : List ℕ) (r : Result ℕ E) → are_digits w ≡ true → ParsesUnsigned 64 10 w r
+    → result_ok r ≡ cond (ltb (value_of w) (2 ^ 64)) (Some (value_of w)) None
+parsed_value w r e h = decided (length w) (value_of w) r (some_digit w e) (parse_digits own 64 w r h (all_digits w e))
 
 -- the parts of the test
 pub record IsNumber (w : List ℕ) : Type 0 where

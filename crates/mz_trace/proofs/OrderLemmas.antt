@@ -41,9 +41,6 @@ in_place-append : (before : Before) (xs ys : List Line) → InPlace before xs �
 in_place-append before [] ys p q = q
 in_place-append before (x ∷ xs) ys p q = (p.0, in_place-append (line_words x ∷ before) xs ys p.1 q)
 
-rounds_in_before : Before → ℕ
-rounds_in_before before = count_by begins_round before
-
 count_of : (x : Line) (before : Before) → count_by begins_round (line_words x ∷ before) ≡ cond (is_round x) (count_by begins_round before + 1) (count_by begins_round before)
 count_of x before = count_more begins_round (line_words x) before ∙ rw (begins_round-line x) refl
 
@@ -169,7 +166,7 @@ calls_read callers before (k ∷ ks) earlier r h e =
     calls_read callers (line_words (call_line k) ∷ before) ks earlier (with_call k.0 k.1 r) h.1 (read_one callers before (call_line k) h.0 ∙ rw e (on_last-push (with_call k.0 k.1) earlier r))
 
 abbrev round_with : List RoundLine → List (List Command) → Round
-round_with lines lists = record { lines = lines; callers = lists }
+round_with lines lists = record { lines = lines; commands = lists }
 
 all_starts : (ss ts : List RoundLine) (lists : List (List Command)) → with_all_starts (round_with ts lists) ss ≡ round_with (ts ++ ss) lists
 all_starts [] ts lists = ap (λ (x : List RoundLine). round_with x lists) (sym (append-nil ts))

@@ -52,10 +52,3 @@ rounds_more rs i r first old new lt at so_far written =
     let more : take (i + 1) rs ≡ take i rs ++ r ∷ [] = take_more rs i r lt ∙ ap (λ (x : Round). take i rs ++ x ∷ []) (sym at) in
     rw (more, lines_of_rounds-push (take i rs) r, lines_text-append (lines_of_rounds (take i rs)) (round_lines r))
     (written ∙ rw so_far (append_assoc first (lines_text (lines_of_rounds (take i rs))) (lines_text (round_lines r))))
-
--- six fields, each behind a label, and an end, written one after the other
-pub fields_written :
-    (out l1 l2 l3 l4 l5 l6 p c m n g z end s1 s2 s3 s4 s5 s6 s7 : List ℕ)
-    → s1 ≡ out ++ l1 ++ p → s2 ≡ s1 ++ l2 ++ c → s3 ≡ s2 ++ l3 ++ m → s4 ≡ s3 ++ l4 ++ n → s5 ≡ s4 ++ l5 ++ g → s6 ≡ s5 ++ l6 ++ z → s7 ≡ s6 ++ end
-    → s7 ≡ out ++ ((l1 ++ (p ++ (l2 ++ (c ++ (l3 ++ (m ++ (l4 ++ (n ++ (l5 ++ (g ++ (l6 ++ z))))))))))) ++ end)
-fields_written out l1 l2 l3 l4 l5 l6 p c m n g z end s1 s2 s3 s4 s5 s6 s7 e1 e2 e3 e4 e5 e6 e7 = rw (e7, e6, e5, e4, e3, e2, e1) (simp append_assoc)

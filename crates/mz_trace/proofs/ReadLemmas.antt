@@ -20,7 +20,6 @@ use Rattle.mz_trace.specs.Lines.{Line, round, start, call, line_words, line_fits
 use Rattle.mz_trace.specs.Forms.{begins_with_digit, is_callers, form_of, fields_of}
 use Rattle.mz_trace.specs.Faults.{begins_round, given_in, is_out_of_place, is_given_before}
 use Rattle.mz_trace.specs.Reading.{fields_why, place_why, form_why}
-use Rattle.mz_trace.specs.declared.fault.Why.{Why}
 use Rattle.mz_trace.specs.declared.fault.Why.TheVariants.{OutOfPlace, GivenBefore}
 use Rattle.mz_trace.specs.RawLines.{HasRead, Adds, NamesGiven, is_round, is_call}
 use Rattle.mz_trace.proofs.NumberLemmas.{is_number-decimal, number_parts}
@@ -148,9 +147,6 @@ has_room callers before words x r h l e place =
     rw h.begun (leb-false 4096 _ (rw begins at place))
 
 -- the whys of a line's place are looked for where none of its fields holds
-pub form_why-fields : (callers : ℕ) (before : List (List (List ℕ))) (words : List (List ℕ)) (f : Form) (y : Why) → Some y ≡ fields_why callers f (fields_of words) → Some y ≡ form_why callers before words f
-form_why-fields callers before words f y e = rw (← e) refl
-
 pub form_why-place : (callers : ℕ) (before : List (List (List ℕ))) (words : List (List ℕ)) (f : Form) → None ≡ fields_why callers f (fields_of words) → place_why before words ≡ form_why callers before words f
 form_why-place callers before words f e = rw (← e) refl
 

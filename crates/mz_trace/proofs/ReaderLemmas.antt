@@ -13,8 +13,8 @@ use Rattle.std.proofs.lemmas.Map.Text.{is_eq-slice_cmp}
 use Rattle.mz_trace.specs.declared.command.Command.TheVariants.{Give}
 use Rattle.mz_trace.specs.declared.form.Form.{Form}
 use Rattle.mz_trace.specs.Numbers.{number_of, ◌>>=◌}
-use Rattle.mz_trace.specs.Lines.{Line, start, call, command_gives}
-use Rattle.mz_trace.specs.Reading.{on_last, caller_of, caller_in, command_behind, call_in, start_in, line_as, given_by}
+use Rattle.mz_trace.specs.Lines.{given_by, Line, start, call, command_gives}
+use Rattle.mz_trace.specs.Reading.{on_last, caller_of, caller_in, command_behind, call_in, start_in, line_as}
 use Rattle.mz_trace.specs.declared.form.Form.TheVariants as form
 
 pub on_last-push : (f : Round → Round) (rs : List Round) (r : Round) → on_last f (rs ++ r ∷ []) ≡ rs ++ f r ∷ []
@@ -31,10 +31,10 @@ open_changed f begun rs old new e = changed (eqb begun 0) where
   changed false = rw e (sym (on_last-push f rs old))
 
 abbrev pub with_lines : Round → List RoundLine → Round
-with_lines r lines = record { lines = lines; callers = r.callers }
+with_lines r lines = record { lines = lines; commands = r.commands }
 
 abbrev pub with_lists : Round → List (List Command) → Round
-with_lists r lists = record { lines = r.lines; callers = lists }
+with_lists r lists = record { lines = r.lines; commands = lists }
 
 -- a caller's number is below their count
 below_of : (callers : ℕ) (w : List ℕ) (n : ℕ) → Some n ≡ caller_of callers w → n < callers

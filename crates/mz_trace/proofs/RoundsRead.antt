@@ -12,13 +12,12 @@ use Rattle.mz_trace.specs.declared.run.RunRound.{RunRound}
 use Rattle.mz_trace.specs.declared.run_reader.RunReader.{RunReader}
 use Rattle.mz_trace.specs.declared.run_reader.Read.{Read}
 use Rattle.mz_trace.specs.declared.run_reader.Read.TheVariants.{Bad, On, End}
-use Rattle.mz_trace.specs.Lines.{is_u64}
+use Rattle.mz_trace.specs.Lines.{given_by, is_u64}
 use Rattle.mz_trace.specs.RunTexts.{start_record_lines, call_record_lines, section_lines, sections_from, run_round_lines}
 use Rattle.mz_trace.specs.RunForms.{start_record_fits, call_record_fits, round_fits}
 use Rattle.mz_trace.specs.RunLines.{blank_reader, caller_taken, with_section, with_round, line_read, caller_read}
 use Rattle.mz_trace.proofs.WordsAgain.{and_three, number_again}
 use Rattle.mz_trace.proofs.RunReads.{on_read, reads_to, then_reads, at_starts, at_section, starts_read, calls_read, givens, given_after, all_fresh, commands, is_fresh}
-use Rattle.mz_trace.specs.RunLines.{given_by}
 
 -- names given by commands in two parts
 givens-append : (given : List (List ℕ)) (xs ys : List Command) → givens given (xs ++ ys) ≡ givens (givens given xs) ys
@@ -33,7 +32,7 @@ fresh_parts given (c ∷ xs) ys h =
     (and_from _ _ p.0 rest.0, rest.1)
 
 -- the heading of a section
-first_caller :
+pub first_caller :
     (callers begun : ℕ) (given : List (List ℕ)) (rounds : List RunRound) (ss : List StartRecord)
     → line_read (at_starts callers begun given rounds ss) (codes "caller" ∷ decimal 0 ∷ []) ≡ On (at_section callers begun given rounds ss [] 0 [])
 first_caller callers begun given rounds ss =
@@ -68,10 +67,10 @@ section_read :
 section_read callers begun given rounds ss ls c x r heading small fit new =
     ap (λ (q : Read). on_read q (λ s. reads_to s (flat_map call_record_lines x))) heading ∙ calls_read callers begun given rounds ss ls c [] x small fit new
 
-abbrev all_fit : ℕ → List (List CallRecord) → Bool
+abbrev pub all_fit : ℕ → List (List CallRecord) → Bool
 all_fit callers lists = list_all (λ calls. list_all (call_record_fits callers) calls) lists
 
-sections_read :
+pub sections_read :
     (callers begun : ℕ) (given : List (List ℕ)) (rounds : List RunRound) (ss : List StartRecord) (ls : List (List CallRecord)) (c : ℕ) (cs : List CallRecord) (lists : List (List CallRecord))
     → callers < 2 ^ 64 → all_fit callers lists ≡ true → all_fresh given (flat_map commands lists) ≡ true → c + length lists < callers
     → Sections callers begun (givens given (flat_map commands lists)) rounds ss (at_section callers begun given rounds ss ls c cs) (sections_from (c + 1) lists) (ls ++ cs ∷ lists) (c + length lists)
@@ -157,7 +156,7 @@ round_begins callers begun given rounds ss ls c cs complete few =
     ap (λ (t : Bool). cond (t && ltb begun 4096) (On (with_round r)) Bad) (eq-eqb (c + 1) callers complete)
     ∙ ap (λ (t : Bool). cond t (On (with_round r)) Bad) (lt-ltb _ _ few)
 
-rounds_end :
+pub rounds_end :
     (callers begun : ℕ) (given : List (List ℕ)) (rounds : List RunRound) (ss : List StartRecord) (ls : List (List CallRecord)) (c : ℕ) (cs : List CallRecord)
     → c + 1 ≡ callers
     → line_read (at_section callers begun given rounds ss ls c cs) (codes "end" ∷ []) ≡ End (rounds ++ round_of_parts ss (ls ++ cs ∷ []) ∷ [])

@@ -20,12 +20,12 @@ use Rattle.mz_trace.specs.declared.run_reader.RunReader.{RunReader}
 use Rattle.mz_trace.specs.declared.run_reader.Read.{Read}
 use Rattle.mz_trace.specs.declared.run_reader.Read.TheVariants.{Bad, On, End}
 use Rattle.mz_trace.specs.Numbers.{are_digits}
-use Rattle.mz_trace.specs.Lines.{is_u64, command_fits, start_fits}
+use Rattle.mz_trace.specs.Lines.{given_by, is_u64, command_fits, start_fits}
 use Rattle.mz_trace.specs.Faults.{Cut}
 use Rattle.mz_trace.specs.RunTexts.{event_words, step_words, answer_words, start_record_lines, call_record_lines}
 use Rattle.mz_trace.specs.RunNames.{has_name, with_name}
 use Rattle.mz_trace.specs.RunForms.{event_fits, step_fits, answer_fits, start_record_fits, call_record_fits}
-use Rattle.mz_trace.specs.RunLines.{start_taken, command_taken, with_record, line_read, line_read_at, answer_read, step_read, step_taken, command_given, given_by}
+use Rattle.mz_trace.specs.RunLines.{start_taken, command_taken, with_record, line_read, line_read_at, answer_read, step_read, step_taken, command_given}
 use Rattle.mz_trace.specs.RunParsing.{Outcome, Rounds, after_line, rounds_from}
 use Rattle.mz_trace.proofs.NumberLemmas.{number_parts, is_number-decimal}
 use Rattle.mz_trace.proofs.WordsAgain.{and_three, command_again, start_again}

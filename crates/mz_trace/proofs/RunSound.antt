@@ -21,12 +21,12 @@ use Rattle.mz_trace.specs.declared.run_reader.RunReader.{RunReader}
 use Rattle.mz_trace.specs.declared.run_reader.Read.{Read}
 use Rattle.mz_trace.specs.declared.run_reader.Read.TheVariants.{Bad, On, End}
 use Rattle.mz_trace.specs.Numbers.{number_of}
-use Rattle.mz_trace.specs.Lines.{command_gives}
+use Rattle.mz_trace.specs.Lines.{given_by, command_gives}
 use Rattle.mz_trace.specs.RunNames.{has_name, with_name}
 use Rattle.mz_trace.specs.RunTexts.{run_round_lines}
 use Rattle.mz_trace.specs.RunWords.{step_in, answer_in, start_of, command_of}
 use Rattle.mz_trace.specs.RunForms.{round_fits}
-use Rattle.mz_trace.specs.RunLines.{with_round, line_read, answer_read, step_read, step_taken, answer_taken, start_taken, command_taken, command_given, given_by, asked_at, asked_read, heading_read, round_read, end_read, caller_read, caller_taken, is_number_of}
+use Rattle.mz_trace.specs.RunLines.{with_round, line_read, answer_read, step_read, step_taken, answer_taken, start_taken, command_taken, command_given, asked_at, asked_read, heading_read, round_read, end_read, caller_read, caller_taken, is_number_of}
 use Rattle.mz_trace.proofs.SoundLemmas.{count_by-push}
 use Rattle.mz_trace.proofs.FreshNames.{is_given, command_gives-given_by, not_before, not_the_new}
 use Rattle.mz_trace.proofs.RunReads.{commands}

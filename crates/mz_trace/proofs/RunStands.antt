@@ -26,7 +26,7 @@ use Rattle.mz_trace.specs.RunWords.{step_in, answer_in, start_of, command_of}
 use Rattle.mz_trace.specs.RunForms.{step_fits, start_record_fits, call_record_fits, round_fits}
 use Rattle.mz_trace.proofs.SectionLemmas.{sections_from-append_one}
 use Rattle.mz_trace.proofs.RunReads.{commands}
-use Rattle.mz_trace.proofs.RoundsRead.{run_commands, round_commands}
+use Rattle.mz_trace.proofs.RoundsRead.{all_fit, run_commands, round_commands}
 use Rattle.mz_trace.proofs.WordsSpelled.{command_spelled, start_spelled}
 use Rattle.mz_trace.proofs.RunWordsSpelled.{step_spelled, answer_spelled}
 
@@ -81,9 +81,6 @@ abbrev pub asked_commands : Option Asked → List Command
 asked_commands None = []
 asked_commands (Some (Start line)) = []
 asked_commands (Some (Call command)) = command ∷ []
-
-abbrev pub all_fit : ℕ → List (List CallRecord) → Bool
-all_fit callers lists = list_all (λ calls. list_all (call_record_fits callers) calls) lists
 
 -- no name was given twice, and those that were given are kept
 pub record NamesOnce (given : List (List ℕ)) (cs : List Command) : Type 0 where

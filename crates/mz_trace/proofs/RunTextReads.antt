@@ -12,6 +12,7 @@ use Rattle.mz_trace.specs.declared.run.StartRecord.{StartRecord}
 use Rattle.mz_trace.specs.declared.run.CallRecord.{CallRecord}
 use Rattle.mz_trace.specs.declared.run.RunRound.{RunRound}
 use Rattle.mz_trace.specs.declared.run.Run.{Run}
+use Rattle.mz_trace.specs.declared.run_reader.RunReader.{RunReader}
 use Rattle.mz_trace.specs.declared.run_reader.Read.{Read}
 use Rattle.mz_trace.specs.declared.tail.Figures.{Figures}
 use Rattle.mz_trace.specs.Lines.{is_u64, start_fits, start_words, command_fits, command_words}
@@ -27,7 +28,7 @@ use Rattle.mz_trace.proofs.RunWordsAgain.{and_four}
 use Rattle.mz_trace.proofs.SolidWords.{solid, number_solid, step_solid, answer_solid, start_solid, command_solid, listed_solid}
 use Rattle.mz_trace.proofs.LinesAgain.{line_of, words_again, are_solid, cuts-lines}
 use Rattle.mz_trace.proofs.RunReads.{rounds_from-reads, all_fresh}
-use Rattle.mz_trace.proofs.RoundsRead.{all_rounds, Ends, run_commands}
+use Rattle.mz_trace.proofs.RoundsRead.{all_fit, all_rounds, Ends, run_commands}
 use Rattle.mz_trace.proofs.FreshNames.{all_fresh-counted}
 use Rattle.mz_trace.proofs.TailReads.{profile_read, space_solid, tail_read}
 
@@ -60,10 +61,7 @@ call_record_solid callers small d h =
     let p = and_three (command_fits callers d.command) (list_all step_fits d.steps) (answer_fits d.answer) h in
     record_solid (command_words d.command) d.steps d.answer (command_solid callers d.command small p.0) p.1 p.2
 
-abbrev all_fit : ℕ → List (List CallRecord) → Bool
-all_fit callers lists = list_all (λ calls. list_all (call_record_fits callers) calls) lists
-
-sections_solid :
+pub sections_solid :
     (callers c : ℕ) (lists : List (List CallRecord)) → callers < 2 ^ 64 → c + length lists ≤ callers → all_fit callers lists ≡ true
     → list_all are_solid (sections_from c lists) ≡ true
 sections_solid callers c [] small le h = refl
@@ -93,7 +91,7 @@ run_solid r h =
     (list_all-append are_solid (flat_map run_round_lines r.rounds) ((codes "end" ∷ []) ∷ [])
     ∙ and_from _ _ (rounds_solid r.profile.callers r.rounds (few_callers r h) h.each) refl)
 
-tail_solid : (t : Figures) → IsTail t → list_all are_solid (tail_lines t) ≡ true
+pub tail_solid : (t : Figures) → IsTail t → list_all are_solid (tail_lines t) ≡ true
 tail_solid t h =
     let s = t.statistics in
     let p = and_four (is_u64 s.blocks_in_use) (is_u64 s.size_in_use) (is_u64 s.max_size_in_use) (is_u64 s.size_allocated) h.numbers in
@@ -102,18 +100,15 @@ tail_solid t h =
     (rw (number_solid s.blocks_in_use p.0, number_solid s.size_in_use p.1, number_solid s.max_size_in_use p.2, number_solid s.size_allocated p.3) refl)
 
 -- the rounds, up to their `end`
-rounds_read :
-    (callers : ℕ) (rs : List RunRound) (rest : List Cut) (e : Ends callers (blank_reader callers) (flat_map run_round_lines rs) rs)
-    → list_all are_solid (flat_map run_round_lines rs) ≡ true
-    → rounds_from (blank_reader callers) 3 (map line_of (flat_map run_round_lines rs ++ (codes "end" ∷ []) ∷ []) ++ rest)
-    ≡ good (record { rounds = rs; number = 3 + length (flat_map run_round_lines rs) + 1; behind = rest })
-rounds_read callers rs rest e h =
-    let lines = flat_map run_round_lines rs in
-    let n = 3 + length lines in
+pub rounds_read :
+    (callers : ℕ) (r : RunReader) (k : ℕ) (lines : List (List (List ℕ))) (rs : List RunRound) (rest : List Cut) (e : Ends callers r lines rs) → list_all are_solid lines ≡ true
+    → rounds_from r k (map line_of (lines ++ (codes "end" ∷ []) ∷ []) ++ rest) ≡ good (record { rounds = rs; number = k + length lines + 1; behind = rest })
+rounds_read callers r k lines rs rest e h =
+    let n = k + length lines in
     let end : Cut = line_of (codes "end" ∷ []) in
     let parts : map line_of (lines ++ (codes "end" ∷ []) ∷ []) ++ rest ≡ map line_of lines ++ (end ∷ rest) =
     ap (λ (x : List Cut). x ++ rest) (map-append line_of lines ((codes "end" ∷ []) ∷ [])) ∙ append_assoc (map line_of lines) (end ∷ []) rest in
-    ap (rounds_from (blank_reader callers) 3) parts ∙ rounds_from-reads lines (blank_reader callers) e.before 3 (end ∷ rest) e.reads h
+    ap (rounds_from r k) parts ∙ rounds_from-reads lines r e.before k (end ∷ rest) e.reads h
     ∙ ap (λ (x : Read). after_line (λ s. rounds_from s (n + 1) rest) n rest x) e.ends
 
 -- the whole text
@@ -131,7 +126,7 @@ text_read r t h k =
     all_fresh-counted [] (run_commands r.rounds) (λ base. omega (arith, h.given_once base)) in
     let ends = all_rounds p.callers r.rounds small h.limits.callers.0 h.few h.each fresh in
     let n = 3 + length (flat_map run_round_lines r.rounds) + 1 in
-    let rounds = rounds_read p.callers r.rounds behind ends (rounds_solid p.callers r.rounds small h.each) in
+    let rounds = rounds_read p.callers (blank_reader p.callers) 3 (flat_map run_round_lines r.rounds) r.rounds behind ends (rounds_solid p.callers r.rounds small h.each) in
     let words = words_again (codes "space") (decimal p.pages ∷ codes "callers" ∷ decimal p.callers ∷ codes "magazines" ∷ decimal p.magazines ∷ codes "nano" ∷ decimal p.nano ∷ codes "gen" ∷ decimal p.most_gen ∷ codes "zones" ∷ decimal p.zones ∷ []) (space_solid p h.limits) in
     ap from_first whole
     ∙ ap (λ (ws : List (List ℕ)). and_then (or_bad 2 (profile_in ws)) (behind_profile (map line_of lines ++ behind))) words
@@ -153,7 +148,7 @@ text_determines r s t u hr ht hs hu e =
     (ap (λ (x : RunAndTail). x.0) pair, ap (λ (x : RunAndTail). x.1) pair)
 
 -- a tail without blocks
-abbrev no_figures : Figures
+abbrev pub no_figures : Figures
 no_figures = record { listing = []; statistics = record { blocks_in_use = 0; size_in_use = 0; max_size_in_use = 0; size_allocated = 0 } }
 
 pub run_text_determines : (r s : Run) → IsRun r → IsRun s → run_text r ≡ run_text s → r ≡ s

@@ -26,11 +26,11 @@ use Rattle.mz_trace.specs.RunTexts.{run_round_lines, run_lines, run_text}
 use Rattle.mz_trace.specs.RunForms.{round_fits, listed_fits, statistics_fit, IsRun, IsTail, IsRunText}
 use Rattle.mz_trace.specs.RunLines.{blank_reader, line_read}
 use Rattle.mz_trace.specs.RunWords.{listed_in, statistic_in}
-use Rattle.mz_trace.specs.RunParsing.{Outcome, good, bad, and_then, or_bad, Rounds, after_line, rounds_from, round_line_read, Blocks, blocks_from, after_listed, listed_line, Statistic, with_lines, statistic_line, statistic_from, if_last, statistics_at, tail_from, RunAndTail, rounds_and_tail, profile_line, behind_profile, from_second, from_first, reading_of}
+use Rattle.mz_trace.specs.RunParsing.{Outcome, good, bad, and_then, or_bad, Rounds, after_line, rounds_from, round_line_read, Blocks, blocks_from, after_listed, listed_line, Statistic, with_lines, statistic_line, statistic_from, if_last, statistics_at, tail_from, RunAndTail, rounds_and_tail, profile_line, behind_profile, from_second, from_first, reading_of, FaultIs}
 use Rattle.std.specs.Result.{MatchResult, IfOk, IfErr}
 use Rattle.mz_trace.specs.declared.run_fault.RunFault.{RunFault}
 use Rattle.mz_trace.specs.declared.run_fault.RunFault.TheVariants as fault
-use Rattle.mz_trace.specs.RunFaults.{FaultIs, HasNoRun}
+use Rattle.mz_trace.specs.RunFaults.{HasNoRun}
 use Rattle.mz_trace.proofs.RunTextReads.{is_text_read}
 use Rattle.mz_trace.proofs.TextLemmas.{uncut, all_ended, uncut-cuts, line_text-words_of}
 use Rattle.mz_trace.proofs.RoundsRead.{run_commands}
@@ -40,7 +40,7 @@ use Rattle.mz_trace.proofs.RunStands.{Text, Stands, Reads, written}
 use Rattle.mz_trace.proofs.RunSound.{RunEnds, LineSound, line_sound}
 
 -- the parts of an outcome
-good_same : {A : Type 0} (x y : A) → good x ≡ good y → x ≡ y
+pub good_same : {A : Type 0} (x y : A) → good x ≡ good y → x ≡ y
 good_same x y h = cc
 
 then_parts : {A B : Type 0} (o : Outcome A) (f : A → Outcome B) (y : B) → and_then o f ≡ good y → (x : A) × (o ≡ good x) × (f x ≡ good y)
@@ -142,7 +142,7 @@ rounds_sound callers (l ∷ ls) r n R some h e =
           let wrong : bad n ≡ good R = ap (after_line (λ s. rounds_from s (n + 1) ls) n ls) (sym here) ∙ e in absurd (cc)
     ]
 
-blank_stands : (callers : ℕ) → Stands callers (blank_reader callers)
+pub blank_stands : (callers : ℕ) → Stands callers (blank_reader callers)
 blank_stands callers = record {
   same = refl;
   begun = refl;
@@ -288,7 +288,7 @@ text_sound l m ls x whole_line first h =
       tail = ts.tail;
     })
 
-cuts_sound : (ls : List Cut) (x : RunAndTail) → from_first ls ≡ good x → TextSound ls x.0 x.1
+pub cuts_sound : (ls : List Cut) (x : RunAndTail) → from_first ls ≡ good x → TextSound ls x.0 x.1
 cuts_sound [] x h = absurd (cc)
 cuts_sound (l ∷ []) x h =
     let p = if_good l.ended _ 1 x h in
@@ -310,7 +310,7 @@ pub ok_is_text :
 ok_is_text bytes (Ok x) h = reading_sound bytes x.0 x.1 h
 ok_is_text bytes (Err e) h = tt
 
-not_both : {A : Type 0} (o : Outcome A) (x : A) (n : ℕ) → o ≡ good x → o ≡ bad n → ⊥
+pub not_both : {A : Type 0} (o : Outcome A) (x : A) (n : ℕ) → o ≡ good x → o ≡ bad n → ⊥
 not_both (good y) x n h k = cc
 not_both (bad m) x n h k = cc
 
@@ -323,9 +323,3 @@ pub err_is_no_text :
     → IfErr o (HasNoRun bytes)
 err_is_no_text bytes (Ok x) h = tt
 err_is_no_text bytes (Err e) h = no_text bytes e h
-
-pub err_is_line :
-    (bytes : List ℕ) (o : Result RunAndTail RunFault) → MatchResult o (λ x. reading_of bytes ≡ good (x.0, x.1)) (FaultIs (reading_of bytes))
-    → IfErr o (FaultIs (reading_of bytes))
-err_is_line bytes (Ok x) h = tt
-err_is_line bytes (Err e) h = h

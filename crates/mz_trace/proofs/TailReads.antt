@@ -84,7 +84,7 @@ blocks_read (b ∷ bs) done n rest h =
     ∙ ap (λ (m : ℕ). blocks_from (done ++ b ∷ [] ++ bs) m rest) count ∙ ap (λ (xs : List Listed). blocks_from xs (n + suc (length bs)) rest) (append_assoc done (b ∷ []) bs)
 
 -- a statistics line
-statistic_read :
+pub statistic_read :
     (name : List ℕ) (v : ℕ) (rest : List Cut) → solid name ≡ true → is_u64 v ≡ true
     → statistic_from name (line_of (name ∷ decimal v ∷ []) ∷ rest) ≡ Some (record { value = v; behind = rest })
 statistic_read name v rest hn hv =
@@ -93,7 +93,7 @@ statistic_read name v rest hn hv =
     ap (λ (ws : List (List ℕ)). with_lines rest (statistic_in name ws)) words
     ∙ ap (λ (t : Bool). with_lines rest (cond t (number_of (decimal v)) None)) same ∙ ap (λ (o : Option ℕ). with_lines rest o) (number_again v hv)
 
-statistics_read : (s : Statistics) (n : ℕ) → statistics_fit s ≡ true → statistics_at n (map line_of (statistics_lines s)) ≡ good s
+pub statistics_read : (s : Statistics) (n : ℕ) → statistics_fit s ≡ true → statistics_at n (map line_of (statistics_lines s)) ≡ good s
 statistics_read s n h =
     let p = and_four (is_u64 s.blocks_in_use) (is_u64 s.size_in_use) (is_u64 s.max_size_in_use) (is_u64 s.size_allocated) h in
     rw (
@@ -104,7 +104,7 @@ statistics_read s n h =
     ) refl
 
 -- the listing ends where the statistics begin
-listing_ends :
+pub listing_ends :
     (bs : List Listed) (n : ℕ) (s : Statistics) → statistics_fit s ≡ true
     → blocks_from bs n (map line_of (statistics_lines s)) ≡ record { blocks = bs; number = n; behind = map line_of (statistics_lines s) }
 listing_ends bs n s h =

@@ -157,7 +157,7 @@ whys = NotPlain ∷ NotTrace ∷ NotSpace ∷ EmptyWord ∷ UnknownCommand ∷ W
 abbrev pub why_of : Spot → Cut → Option Why
 why_of spot l = find (λ y. holds y spot l) whys
 
--- the first that holds of a line that isn't there
+-- a line's number, with the first why that holds of it
 abbrev pub BadLine : Type 0
 BadLine = ℕ × Why
 
@@ -181,7 +181,13 @@ bad_line (l ∷ m ∷ ls) =
 abbrev pub bad_line_of : List ℕ → Option BadLine
 bad_line_of bytes = bad_line (cuts bytes)
 
--- the fault that is answered is the first bad line with its why, or memory ran out
+-- The number of the bad line, and the number of its first why.
+pub record TellsBadLine (bad : Option BadLine) (line why : ℕ) : Type 0 where
+  pub first : Why
+  pub bad_line : bad ≡ Some (line, first)
+  pub number : why ≡ why_number first
+
+-- the fault that is answered tells the first bad line with its why, or memory ran out
 abbrev pub Fails : Option BadLine → TraceFault → Type 0
 Fails bad NoMemory = Unit {0}
-Fails bad (Bad line why) = bad ≡ Some (line, why)
+Fails bad (Bad line why) = TellsBadLine bad line why

@@ -1,5 +1,5 @@
 -- The lines of a trace behind its first two, and the words of each. This project's own.
-use Rattle.std.specs.Prelude.{ℕ, ◌^◌, Bool, true, false, nat_lt, ◌&&◌, List, [], ◌∷◌, codes}
+use Rattle.std.specs.Prelude.{ℕ, ◌^◌, Bool, true, false, nat_lt, ◌&&◌, List, [], ◌∷◌, Option, None, Some, codes}
 use Rattle.std.specs.Str.{bytes_eq}
 use Rattle.std.specs.Fmt.{decimal}
 use Rattle.mz_base.specs.Names.{is_base_name}
@@ -122,3 +122,8 @@ abbrev pub gives : List ℕ → Line → Bool
 gives base round = false
 gives base (start x) = false
 gives base (call caller command) = command_gives base command
+
+-- the name under which a command gives a block
+abbrev pub given_by : Command → Option (List ℕ)
+given_by (Give name to given) = Some given.base
+given_by _ = None

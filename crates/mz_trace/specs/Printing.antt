@@ -2,8 +2,8 @@
 use Rattle.std.specs.Prelude.{ℕ, List, ◌∷◌, codes}
 use Rattle.std.specs.List.{flat_map}
 use Rattle.std.specs.Fmt.{decimal}
-use Rattle.mz_trace.specs.declared.run_printer.words.Word.{Word}
-use Rattle.mz_trace.specs.declared.run_printer.words.Word.TheVariants.{Null, Number, Base, Zone, Block, Place, Range, Bytes}
+use Rattle.mz_trace.specs.declared.printer.words.Word.{Word}
+use Rattle.mz_trace.specs.declared.printer.words.Word.TheVariants.{Null, Number, Base, Zone, Block, Place, Range, Bytes}
 use Rattle.mz_trace.specs.Names.{name_word}
 use Rattle.mz_trace.specs.RunTexts.{place_word, hex_word}
 use Rattle.mz_trace.specs.TailTexts.{range_word}

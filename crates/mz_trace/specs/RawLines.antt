@@ -1,6 +1,8 @@
--- What the reader keeps of the lines that it has read. The definitions of traces don't need it.
+-- What the reader of traces keeps of the lines that it has read, what one more line adds to that, and what reading comes
+-- to. These go as the code goes; the definitions of traces and of bad lines don't need them.
 use Rattle.std.specs.Prelude.{ℕ, ◌+◌, ◌||◌, Bool, false, Some, ◌≡◌, ◌==◌, ◌++◌, List, [], ◌∷◌, Option, None, IfSome, true, length, count_by, if◌then◌else◌}
 use Rattle.std.specs.List.{filter_map, list_any}
+use Rattle.std.specs.Option.{option_map}
 use Rattle.std.specs.Ordering.{nat_cmp}
 use Rattle.std.specs.Cmp.Lexicographic.{slice_cmp}
 use Rattle.std.specs.BTreeSet.{contains}
@@ -11,11 +13,11 @@ use Rattle.mz_trace.specs.declared.reader.Reader.{Reader}
 use Rattle.mz_trace.specs.declared.fault.Why.{Why}
 use Rattle.mz_trace.specs.Names.{is_given_name}
 use Rattle.mz_trace.specs.declared.fault.TraceFault.{TraceFault}
-use Rattle.mz_trace.specs.Faults.{Fails}
+use Rattle.mz_trace.specs.declared.fault.TraceFault.TheVariants.{Bad, NoMemory}
 use Rattle.std.specs.Prelude.{Result, Ok, Err}
 use Rattle.mz_base.specs.declared.profile.Profile.{Profile}
 use Rattle.mz_trace.specs.Spaces.{profile_in}
-use Rattle.mz_trace.specs.Faults.{Cut, BadLine, why_of, second, later, words_of, begins_round, has_callers_line, given_in}
+use Rattle.mz_trace.specs.Faults.{Cut, BadLine, why_number, why_of, second, later, words_of, begins_round, has_callers_line, given_in}
 use Rattle.mz_trace.specs.Reading.{rounds_of, with_line, words_why, form_why}
 use Rattle.mz_trace.specs.declared.form.Form.{Form}
 use Rattle.mz_trace.specs.Lines.{Line, round, call, gives}
@@ -37,7 +39,7 @@ pub record HasRead (callers : ℕ) (before : List (List (List ℕ))) (r : Reader
   pub calling : r.calling ≡ has_callers_line before
   pub given : (base : List ℕ) → contains (slice_cmp nat_cmp) r.given base ≡ list_any (bytes_eq (64 ∷ base)) (filter_map given_in before)
   pub rounds : rounds_in r ≡ rounds_of callers before
-  pub lists : length r.open.callers ≡ callers
+  pub lists : length r.open.commands ≡ callers
   pub ready : IsReady r
 
 -- it has read some lines
@@ -58,7 +60,7 @@ pub record Adds (callers : ℕ) (x : Line) (old new : Reader) : Type 0 where
   pub calling : new.calling ≡ (if is_round x then false else (is_call x || old.calling))
   pub given : (base : List ℕ) → contains (slice_cmp nat_cmp) new.given base ≡ (gives base x || contains (slice_cmp nat_cmp) old.given base)
   pub rounds : IsReady old → rounds_in new ≡ with_line callers (Some x) (rounds_in old)
-  pub lists : length old.open.callers ≡ callers → length new.open.callers ≡ callers
+  pub lists : length old.open.commands ≡ callers → length new.open.commands ≡ callers
   pub ready : IsReady old → IsReady new
 
 -- a line that gives a block gives it under a name of its form
@@ -80,10 +82,19 @@ pub record ReadsCut (callers : ℕ) (before : List (List (List ℕ))) (l : Cut) 
   pub first : why ≡ why_of (later callers before) l
   pub read : why ≡ None → HasRead callers (words_of l.text ∷ before) r
 
+-- the number of a bad line, and the number of its first why
+abbrev pub numbers_of : Option BadLine → Option (ℕ × ℕ)
+numbers_of bad = option_map (λ b. (b.0, why_number b.1)) bad
+
+-- the fault has the numbers of the first bad line, or memory ran out
+abbrev pub HasNumbers : Option BadLine → TraceFault → Type 0
+HasNumbers bad NoMemory = Unit {0}
+HasNumbers bad (Bad line why) = numbers_of bad ≡ Some (line, why)
+
 -- What reading comes to: the value, where no line is bad; else the first bad line.
 abbrev pub ComesTo : {X : Type 0} → Option BadLine → Option X → Result X TraceFault → Type 0
 ComesTo bad value (Ok x) = (bad ≡ None) × (value ≡ Some x)
-ComesTo bad value (Err fault) = Fails bad fault
+ComesTo bad value (Err fault) = HasNumbers bad fault
 
 -- the profile of the second line, or the first why that holds of it
 abbrev pub IsSecond : Cut → Result Profile Why → Type 0

@@ -22,7 +22,7 @@ use Rattle.mz_trace.specs.declared.round.Round.{Round}
 use Rattle.mz_trace.specs.declared.trace.Trace.{Trace}
 use Rattle.mz_trace.specs.Forms.{form_of, fields_of, operands_of}
 use Rattle.mz_trace.specs.Spaces.{profile_in}
-use Rattle.mz_trace.specs.Faults.{is_out_of_place, is_given_before, Cut, cuts, words_of, BadLine, is_no_number, is_no_caller, is_no_name, is_beyond_limits}
+use Rattle.mz_trace.specs.Faults.{is_out_of_place, is_given_before, Cut, words_of, is_no_number, is_no_caller, is_no_name, is_beyond_limits}
 use Rattle.mz_trace.specs.declared.form.Operand.{Operand}
 use Rattle.mz_trace.specs.declared.fault.Why.{Why}
 use Rattle.mz_trace.specs.declared.fault.Why.TheVariants.{EmptyWord, UnknownCommand, WrongCount, NotNumber, NoSuchCaller, NotName, BeyondLimits, OutOfPlace, GivenBefore}
@@ -231,13 +231,13 @@ on_last f (r ∷ []) = f r ∷ []
 on_last f (r ∷ s ∷ rs) = r ∷ on_last f (s ∷ rs)
 
 abbrev pub with_start : RoundLine → Round → Round
-with_start x r = record { lines = r.lines ++ x ∷ []; callers = r.callers }
+with_start x r = record { lines = r.lines ++ x ∷ []; commands = r.commands }
 
 abbrev pub with_call : ℕ → Command → Round → Round
-with_call caller command r = record { lines = r.lines; callers = slice_set r.callers caller (slice_index_or r.callers caller [] ++ command ∷ []) }
+with_call caller command r = record { lines = r.lines; commands = slice_set r.commands caller (slice_index_or r.commands caller [] ++ command ∷ []) }
 
 abbrev pub blank_round : ℕ → Round
-blank_round callers = record { lines = []; callers = replicate callers [] }
+blank_round callers = record { lines = []; commands = replicate callers [] }
 
 abbrev pub with_line : ℕ → Option Line → List Round → List Round
 with_line callers None rs = rs
@@ -259,11 +259,6 @@ behind before (l ∷ ls) = behind (words_of l.text ∷ before) ls
 abbrev pub trace_in : List Cut → Option Trace
 trace_in (l ∷ m ∷ ls) = profile_in (words_of m.text) >>= λ p. Some (record { profile = p; rounds = rounds_of p.callers (behind [] ls) })
 trace_in _ = None
-
--- what reading a whole text comes to: a trace, or the first bad line
-abbrev pub outcome_of : List ℕ → Option BadLine → Option Trace
-outcome_of bytes (Some bad) = None
-outcome_of bytes None = trace_in (cuts bytes)
 
 -- what is asked of a line's words, as one test
 abbrev pub is_wrong : Demand → List (List ℕ) → Operand → List ℕ → Bool
@@ -295,20 +290,3 @@ abbrev pub words_why : ℕ → List (List (List ℕ)) → List (List ℕ) → Op
 words_why callers before words =
     if list_any (λ word. length word == 0) words then Some EmptyWord
     else option_map_or (form_why callers before words) (form_of words) (Some UnknownCommand)
-
--- the name under which a command gives a block
-abbrev pub given_by : Command → Option (List ℕ)
-given_by (Give name to given) = Some given.base
-given_by _ = None
-
--- the commands about blocks that have a name, which the printer takes apart from the others
-abbrev pub IsHeld : Command → Type 0
-IsHeld (Malloc name n) = ⊥
-IsHeld (Calloc name n m) = ⊥
-IsHeld (Valloc name n) = ⊥
-IsHeld (Memalign name al n) = ⊥
-IsHeld (Realloc names n) = ⊥
-IsHeld (Batch name count n) = ⊥
-IsHeld (Unbatch name) = ⊥
-IsHeld (Use zone) = ⊥
-IsHeld _ = Unit {0}

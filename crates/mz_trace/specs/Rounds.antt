@@ -27,7 +27,7 @@ lists_from first (suc n) cs = commands_by first cs ∷ lists_from (first + 1) n 
 pub record IsRound (callers : ℕ) (lines : List Line) (r : Round) : Type 0 where
   pub calls : List Call
   pub parts : lines ≡ round ∷ (map start r.lines ++ map call_line calls)
-  pub lists : r.callers ≡ lists_from 0 callers calls
+  pub lists : r.commands ≡ lists_from 0 callers calls
 
 -- The lines make these rounds, one after the other.
 pub data AreRounds (callers : ℕ) : List Line → List Round → Type 0 where
@@ -42,7 +42,7 @@ calls_from first [] = []
 calls_from first (cs ∷ lists) = map (λ c. (first, c)) cs ++ calls_from (first + 1) lists
 
 abbrev pub round_lines : Round → List Line
-round_lines r = round ∷ (map start r.lines ++ map call_line (calls_from 0 r.callers))
+round_lines r = round ∷ (map start r.lines ++ map call_line (calls_from 0 r.commands))
 
 abbrev pub lines_of_rounds : List Round → List Line
 lines_of_rounds [] = []
@@ -50,4 +50,4 @@ lines_of_rounds (r ∷ rs) = round_lines r ++ lines_of_rounds rs
 
 -- each round has a list for each caller
 abbrev pub HaveLists : ℕ → List Round → Type 0
-HaveLists callers rs = AllByRecursion (λ r. length r.callers ≡ callers) rs
+HaveLists callers rs = AllByRecursion (λ r. length r.commands ≡ callers) rs

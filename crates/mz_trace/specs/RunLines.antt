@@ -3,7 +3,6 @@ use Rattle.std.specs.Prelude.{ℕ, ◌+◌, ◌==◌, ◌&&◌, Bool, true, fals
 use Rattle.std.specs.Str.{bytes_eq}
 use Rattle.mz_trace.specs.declared.answer.Answer.{Answer}
 use Rattle.mz_trace.specs.declared.command.Command.{Command}
-use Rattle.mz_trace.specs.declared.command.Command.TheVariants.{Give}
 use Rattle.mz_trace.specs.declared.round.RoundLine.{RoundLine}
 use Rattle.mz_trace.specs.declared.run.Step.{Step}
 use Rattle.mz_trace.specs.declared.run.StartRecord.{StartRecord}
@@ -17,6 +16,7 @@ use Rattle.mz_trace.specs.declared.run_reader.RunReader.{RunReader}
 use Rattle.mz_trace.specs.declared.run_reader.Read.{Read}
 use Rattle.mz_trace.specs.declared.run_reader.Read.TheVariants.{Bad, On, End}
 use Rattle.mz_trace.specs.Numbers.{number_of}
+use Rattle.mz_trace.specs.Lines.{given_by}
 use Rattle.mz_trace.specs.RunNames.{has_name, with_name}
 use Rattle.mz_trace.specs.RunWords.{step_in, answer_in, start_of, command_of}
 
@@ -143,11 +143,6 @@ start_taken r (Some line) = On (with_asked r (asked.Start line))
 
 abbrev pub start_asked : RunReader → List (List ℕ) → Read
 start_asked r words = start_taken r (start_of words)
-
--- the name under which a command gives a block
-abbrev pub given_by : Command → Option (List ℕ)
-given_by (Give name to given) = Some given.base
-given_by _ = None
 
 -- a command; a name under which it gives a block is a new one
 abbrev pub command_given : RunReader → Command → Option (List ℕ) → Read

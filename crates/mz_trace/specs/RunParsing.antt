@@ -1,9 +1,12 @@
--- What a whole text comes to: a run with what stands behind it, or the first line that is bad.
-use Rattle.std.specs.Prelude.{ℕ, ◌+◌, List, [], ◌∷◌, ◌++◌, Option, None, Some, codes, if◌then◌else◌}
+-- What reading a whole text comes to: a run with what stands behind it, or the line at which reading stops. This follows
+-- the code; that the line is the first bad one is proved.
+use Rattle.std.specs.Prelude.{ℕ, ◌≡◌, ◌+◌, List, [], ◌∷◌, ◌++◌, Option, None, Some, codes, if◌then◌else◌}
 use Rattle.std.specs.Str.{bytes_eq}
 use Rattle.mz_base.specs.declared.profile.Profile.{Profile}
 use Rattle.mz_trace.specs.declared.run.RunRound.{RunRound}
 use Rattle.mz_trace.specs.declared.run.Run.{Run}
+use Rattle.mz_trace.specs.declared.run_fault.RunFault.{RunFault}
+use Rattle.mz_trace.specs.declared.run_fault.RunFault.TheVariants as fault
 use Rattle.mz_trace.specs.declared.run_reader.RunReader.{RunReader}
 use Rattle.mz_trace.specs.declared.run_reader.Read.{Read}
 use Rattle.mz_trace.specs.declared.run_reader.Read.TheVariants.{Bad, On, End}
@@ -127,3 +130,8 @@ from_first (l ∷ ls) = if l.ended then (if bytes_eq l.text (codes "mzone-run 1"
 
 abbrev pub reading_of : List ℕ → Outcome RunAndTail
 reading_of bytes = from_first (cuts bytes)
+
+-- where memory is enough, a fault names the line at which reading stops
+abbrev pub FaultIs : {A : Type 0} → Outcome A → RunFault → Type 0
+FaultIs o (fault.Bad line) = o ≡ bad line
+FaultIs o fault.NoMemory = Unit {0}

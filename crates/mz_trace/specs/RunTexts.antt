@@ -79,9 +79,13 @@ answer_words (answer.Zone name) = codes "zone" ∷ name ∷ []
 abbrev pub step_words : Step → List (List ℕ)
 step_words e = decimal e.ticket ∷ event_words e.event
 
--- a record: the words of the line behind a `>`, its entries, and the answer behind a `=`
+-- what became of a line: its entries, and the answer behind a `=`
+abbrev pub outcome_lines : List Step → Answer → List (List (List ℕ))
+outcome_lines steps answer = map step_words steps ++ (codes "=" ∷ answer_words answer) ∷ []
+
+-- a record: the words of the line behind a `>`, and what became of it
 abbrev pub record_lines : List (List ℕ) → List Step → Answer → List (List (List ℕ))
-record_lines words steps answer = (codes ">" ∷ words) ∷ (map step_words steps ++ (codes "=" ∷ answer_words answer) ∷ [])
+record_lines words steps answer = (codes ">" ∷ words) ∷ outcome_lines steps answer
 
 abbrev pub start_record_lines : StartRecord → List (List (List ℕ))
 start_record_lines d = record_lines (start_words d.line) d.steps d.answer
@@ -111,7 +115,7 @@ run_text r = flat_map line_text (run_lines r)
 
 -- the trace of a run
 abbrev pub round_of : RunRound → Round
-round_of r = record { lines = map (λ d. d.line) r.starts; callers = map (λ calls. map (λ d. d.command) calls) r.callers }
+round_of r = record { lines = map (λ d. d.line) r.starts; commands = map (λ calls. map (λ d. d.command) calls) r.callers }
 
 abbrev pub trace_of : Run → Trace
 trace_of r = record { profile = r.profile; rounds = map round_of r.rounds }

@@ -16,7 +16,7 @@ use crate::words::is_number;
 use std::alloc::{AllocError, Global};
 
 /// The form with this command word.
-fn form_among(forms: &[Form], word: &[u8]) -> Option<Form>
+pub fn form_among(forms: &[Form], word: &[u8]) -> Option<Form>
     ensures { result ≡ form_among forms.now word.now }
 {
     forms.iter().copied().find(|form| word == form.word())

@@ -38,7 +38,7 @@ pub enum Why {
 
 impl Why {
     /// The number of this why, from 1 to 12.
-    pub fn number(self) -> u64
+    pub fn number(self) -> u8
         ensures { result ≡ why_number self }
     {
         match self {
@@ -61,9 +61,9 @@ impl Why {
 /// Why there is no trace.
 #[derive(Debug, Drop, Error)]
 pub enum TraceFault {
-    /// The first line that is bad, counted from 1, and the first why that holds of it.
-    #[error("bad trace: line {line}, why {number}", number = why.number())]
-    Bad { line: u64, why: Why },
+    /// The first line that is bad, counted from 1, and the number of the first why that holds of it.
+    #[error("bad trace: line {line}, why {why}")]
+    Bad { line: u64, why: u8 },
     /// There wasn't memory enough.
     #[error("out of memory")]
     NoMemory,

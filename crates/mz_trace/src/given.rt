@@ -1,6 +1,8 @@
 ghost use Rattle.std.specs.Prelude.{◌≡◌, [], OnOk};
+ghost use Rattle.mz_trace.specs.Lines.{given_by};
 ghost use Rattle.mz_trace.specs.RunNames.{has_name, with_name};
 
+use crate::command::Command;
 use crate::name::BaseName;
 use std::alloc::{AllocError, Global};
 use std::collections::BTreeSet;
@@ -43,5 +45,15 @@ impl GivenNames {
     {
         self.names.insert(name)?;
         Ok(())
+    }
+}
+
+/// The name under which a command gives a block.
+pub fn given_by(command: &Command) -> Option<BaseName>
+    ensures { result ≡ given_by command.now }
+{
+    match command {
+        Command::Give { given, .. } => Some(given.base),
+        _ => None,
     }
 }

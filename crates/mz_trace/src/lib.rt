@@ -1,6 +1,15 @@
 //! The texts of traces and of printed runs: what is to be run, and what became of it, as lines of
 //! words.
 //!
+//! What the layer above can rely on: `parse` answers a trace exactly where the bytes are a text of
+//! one, and then that one; else it tells the first bad line and the number of its first why.
+//! `print_trace` writes a text of a trace. `print_run` writes the text of a run, and `Tail::bytes`
+//! is what stands behind it; `parse_run` answers a run and a tail exactly where the bytes are these
+//! two texts, and then those; else it tells the first line that can't stand where it stands. Beside
+//! that each of them may only answer that memory is short. Traces and runs are plain values: a
+//! contract sees each of their lists as a list, which is made from a `Vec` and gives it back without
+//! taking memory.
+//!
 //! - `name`, `count`, `command`, `round`, `trace`: what a trace is made of.
 //! - `answer`, `run`, `tail`: what a run adds, and what stands behind it.
 //! - `line`, `words`, `reader`, `reading`, `parser`: from bytes to a trace.

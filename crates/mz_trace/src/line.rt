@@ -5,6 +5,8 @@ ghost use Rattle.std.specs.List.{list_all};
 ghost use Rattle.mz_trace.specs.Numbers.{is_from};
 ghost use Rattle.mz_trace.specs.Faults.{cuts, is_plain};
 ghost use Rattle.mz_trace.specs.RawLines.{cut_of};
+ghost use Rattle.mz_trace.specs.RunRests.{is_short};
+ghost use Rattle.std.specs.Prelude.{◌==◌, count_by};
 
 /// The bytes before a line feed, or behind the last one.
 #[derive(Clone, Copy, Debug)]
@@ -60,4 +62,18 @@ fn all_printable(text: &[u8]) -> bool
     ensures { result ≡ list_all (is_from 32 126) text.now }
 {
     text.iter().all(|b| 32 <= *b && *b <= 126)
+}
+
+/// Whether a line has a line feed and few words, so that no more than 12 are ever cut of a line of
+/// a run.
+pub fn is_short(line: &RawLine<'_>) -> bool
+    ensures { result ≡ is_short (cut_of line.now) }
+{
+    line.ended && spaces(line.text) <= 11
+}
+
+fn spaces(text: &[u8]) -> usize
+    ensures { result ≡ count_by (λ b. b == 32) text.now }
+{
+    text.iter().filter(|b| **b == b' ').count()
 }

@@ -38,21 +38,25 @@ fn read_all(alloc: Global, bytes: &[u8]) -> Result<Trace, TraceFault>
     let Some((first, rest)) = next_line(bytes) else {
         return Err(TraceFault::Bad {
             line: 1,
-            why: Why::NotTrace,
+            why: Why::NotTrace.number(),
         });
     };
     if let Some(why) = first_why(&first) {
+        let why = why.number();
         return Err(TraceFault::Bad { line: 1, why });
     }
     let Some((second, rest)) = next_line(rest) else {
         return Err(TraceFault::Bad {
             line: 2,
-            why: Why::NotSpace,
+            why: Why::NotSpace.number(),
         });
     };
     let profile = match second_line(alloc, &second)? {
         Ok(profile) => profile,
-        Err(why) => return Err(TraceFault::Bad { line: 2, why }),
+        Err(why) => {
+            let why = why.number();
+            return Err(TraceFault::Bad { line: 2, why });
+        }
     };
     let rounds = later_lines(alloc, profile.callers, rest)?;
     Ok(Trace { profile, rounds })
@@ -183,6 +187,7 @@ fn later_lines(alloc: Global, callers: u32, bytes: &[u8]) -> Result<Rounds, Trac
     let mut number: u64 = 3;
     while let Some((line, after)) = next_line(rest) {
         if let Some(why) = reader.read_line(alloc, callers, &line)? {
+            let why = why.number();
             return Err(TraceFault::Bad { line: number, why });
         }
         rest = after;

@@ -10,12 +10,13 @@ ghost use Rattle.std.specs.BTreeSet.{contains};
 ghost use Rattle.mz_trace.specs.Lines.{Line as line, round, start, call, command_gives};
 ghost use Rattle.mz_trace.specs.Forms.{form_of, fields_of};
 ghost use Rattle.mz_trace.specs.Faults.{given_in, is_out_of_place, is_given_before};
-ghost use Rattle.mz_trace.specs.Reading.{words_why, fields_why, place_why, form_why, line_as, call_in, caller_in, command_behind, given_by};
+ghost use Rattle.mz_trace.specs.Reading.{words_why, fields_why, place_why, form_why, line_as, call_in, caller_in, command_behind};
 
 use crate::checks::{Demand, begins_round, fields, form_of, is_callers, some_wrong};
 use crate::command::Command;
 use crate::fault::Why;
 use crate::form::Form;
+use crate::given::given_by;
 use crate::line::{RawLine, is_plain};
 use crate::name::BaseName;
 use crate::reading;
@@ -107,16 +108,6 @@ fn command_behind(callers: u32, form: Form, fields: &[&[u8]]) -> Option<Command>
     }
 }
 
-/// The name under which a command gives a block.
-fn given_by(command: &Command) -> Option<BaseName>
-    ensures { result ≡ given_by command.now }
-{
-    match command {
-        Command::Give { given, .. } => Some(given.base),
-        _ => None,
-    }
-}
-
 /// Notes the name under which a command gives a block.
 fn note_given(given: &mut BTreeSet<BaseName>, command: &Command) -> Result<(), AllocError>
     ensures { OnOk result ((base : List ℕ) → contains (slice_cmp nat_cmp) given.new base ≡ (command_gives base command.now || contains (slice_cmp nat_cmp) given.old base)) }
@@ -139,7 +130,7 @@ impl Reader {
     {
         let open = Round {
             lines: RoundLines::new(alloc),
-            callers: CallerLists::new(alloc, callers)?,
+            commands: CallerLists::new(alloc, callers)?,
         };
         Ok(Reader {
             begun: 0,
@@ -256,7 +247,7 @@ impl Reader {
         fields: &[&[u8]],
     ) -> Result<(), AllocError>
         requires room { form ≡ forms.Round → self.old.begun < 4096 }
-        requires lists { length self.old.open.callers ≡ callers }
+        requires lists { length self.old.open.commands ≡ callers }
         ensures { OnOk result ((x : line) → line_as callers form (map (λ w. w.now) fields.now) ≡ Some x → Adds callers x self.old self.new) }
     {
         match form {
@@ -270,7 +261,7 @@ impl Reader {
 
     /// Adds a command of a caller.
     fn take_call(&mut self, callers: u32, form: Form, fields: &[&[u8]]) -> Result<(), AllocError>
-        requires { length self.old.open.callers ≡ callers }
+        requires { length self.old.open.commands ≡ callers }
         ensures { OnOk result ((x : line) → call_in callers form (map (λ w. w.now) fields.now) ≡ Some x → Adds callers x self.old self.new) }
     {
         match caller_in(callers, fields) {
@@ -292,12 +283,12 @@ impl Reader {
 
     /// A command of a caller.
     fn add_call(&mut self, caller: u32, command: Command) -> Result<(), AllocError>
-        requires { caller < length self.old.open.callers }
+        requires { caller < length self.old.open.commands }
         ensures { OnOk result ((callers : ℕ) → Adds callers (call caller command) self.old self.new) }
     {
         note_given(&mut self.given, &command)?;
         self.calling = true;
-        self.open.callers.push(caller, command)?;
+        self.open.commands.push(caller, command)?;
         Ok(())
     }
 
@@ -308,7 +299,7 @@ impl Reader {
     {
         let fresh = Round {
             lines: RoundLines::new(alloc),
-            callers: CallerLists::new(alloc, callers)?,
+            commands: CallerLists::new(alloc, callers)?,
         };
         let before = mem::replace(&mut self.open, fresh);
         if self.begun > 0 {

@@ -31,7 +31,7 @@ pub fn base(word: &[u8]) -> Option<BaseName>
 }
 
 /// The name of a zone.
-fn zone(word: &[u8]) -> Option<ZoneName>
+pub fn zone(word: &[u8]) -> Option<ZoneName>
     ensures { result ≡ base_of word.now }
 {
     ZoneName::new(word)

@@ -1,4 +1,4 @@
-ghost use Rattle.std.specs.Prelude.{◌≡◌, ◌<◌, ◌++◌, ◌∷◌, [], OnOk, length, slice_index_or, slice_set, replicate, IfOk};
+ghost use Rattle.std.specs.Prelude.{◌≡◌, ◌<◌, ◌++◌, ◌∷◌, [], OnOk, OnErr, length, slice_index_or, slice_set, replicate, IfOk};
 ghost use Rattle.std.specs.List.{slice_get};
 
 use crate::command::Command;
@@ -35,6 +35,13 @@ impl Model for RoundLines {
 }
 
 impl RoundLines {
+    /// These, in this order.
+    pub fn of(items: Vec<RoundLine>) -> RoundLines
+        ensures { result ≡ items.items }
+    {
+        RoundLines { items }
+    }
+
     /// No lines.
     pub fn new(alloc: Global) -> RoundLines
         ensures { result ≡ [] }
@@ -46,7 +53,8 @@ impl RoundLines {
 
     /// One more line, behind the others.
     pub fn push(&mut self, line: RoundLine) -> Result<(), AllocError>
-        ensures { OnOk result (self.new ≡ self.old ++ line ∷ []) }
+        ensures ok { OnOk result (self.new ≡ self.old ++ line ∷ []) }
+        ensures err { OnErr result (self.new ≡ self.old) }
     {
         self.items.push(line)?;
         Ok(())
@@ -57,6 +65,13 @@ impl RoundLines {
         ensures { result.now ≡ self.now }
     {
         &self.items
+    }
+
+    /// The lines, in this order.
+    pub fn into_vec(self) -> Vec<RoundLine>
+        ensures { result.items ≡ self }
+    {
+        self.items
     }
 }
 
@@ -76,6 +91,13 @@ impl Model for Commands {
 }
 
 impl Commands {
+    /// These, in this order.
+    pub fn of(items: Vec<Command>) -> Commands
+        ensures { result ≡ items.items }
+    {
+        Commands { items }
+    }
+
     /// No commands.
     pub fn new(alloc: Global) -> Commands
         ensures { result ≡ [] }
@@ -87,7 +109,8 @@ impl Commands {
 
     /// One more command, behind the others.
     pub fn push(&mut self, command: Command) -> Result<(), AllocError>
-        ensures { OnOk result (self.new ≡ self.old ++ command ∷ []) }
+        ensures ok { OnOk result (self.new ≡ self.old ++ command ∷ []) }
+        ensures err { OnErr result (self.new ≡ self.old) }
     {
         self.items.push(command)?;
         Ok(())
@@ -98,6 +121,13 @@ impl Commands {
         ensures { result.now ≡ self.now }
     {
         &self.items
+    }
+
+    /// The commands, in this order.
+    pub fn into_vec(self) -> Vec<Command>
+        ensures { result.items ≡ self }
+    {
+        self.items
     }
 }
 
@@ -117,6 +147,13 @@ impl Model for CallerLists {
 }
 
 impl CallerLists {
+    /// These, in this order.
+    pub fn of(items: Vec<Commands>) -> CallerLists
+        ensures { result ≡ items.items }
+    {
+        CallerLists { items }
+    }
+
     /// No commands, for so many callers.
     pub fn new(alloc: Global, callers: u32) -> Result<CallerLists, AllocError>
         ensures { IfOk result (λ lists. lists ≡ replicate callers []) }
@@ -131,7 +168,8 @@ impl CallerLists {
     /// One more command of a caller, behind its others.
     pub fn push(&mut self, caller: u32, command: Command) -> Result<(), AllocError>
         requires { caller < length self.old }
-        ensures { OnOk result (self.new ≡ slice_set self.old caller (slice_index_or self.old caller [] ++ command ∷ [])) }
+        ensures ok { OnOk result (self.new ≡ slice_set self.old caller (slice_index_or self.old caller [] ++ command ∷ [])) }
+        ensures err { OnErr result (self.new ≡ self.old) }
     {
         let list = &mut self.items[caller as usize];
         list.push(command)?;
@@ -144,13 +182,20 @@ impl CallerLists {
     {
         &self.items
     }
+
+    /// The lists, in this order.
+    pub fn into_vec(self) -> Vec<Commands>
+        ensures { result.items ≡ self }
+    {
+        self.items
+    }
 }
 
 /// One round: what is done at its start, and what each caller asks for.
 #[derive(Drop, Debug)]
 pub struct Round {
     pub lines: RoundLines,
-    pub callers: CallerLists,
+    pub commands: CallerLists,
 }
 
 /// The rounds of a trace, in order. Contracts see them as a list.
@@ -169,6 +214,13 @@ impl Model for Rounds {
 }
 
 impl Rounds {
+    /// These, in this order.
+    pub fn of(items: Vec<Round>) -> Rounds
+        ensures { result ≡ items.items }
+    {
+        Rounds { items }
+    }
+
     /// No rounds.
     pub fn new(alloc: Global) -> Rounds
         ensures { result ≡ [] }
@@ -180,7 +232,8 @@ impl Rounds {
 
     /// One more round, behind the others.
     pub fn push(&mut self, round: Round) -> Result<(), AllocError>
-        ensures { OnOk result (self.new ≡ self.old ++ round ∷ []) }
+        ensures ok { OnOk result (self.new ≡ self.old ++ round ∷ []) }
+        ensures err { OnErr result (self.new ≡ self.old) }
     {
         self.items.push(round)?;
         Ok(())
@@ -191,5 +244,12 @@ impl Rounds {
         ensures { result.now ≡ self.now }
     {
         &self.items
+    }
+
+    /// The rounds, in this order.
+    pub fn into_vec(self) -> Vec<Round>
+        ensures { result.items ≡ self }
+    {
+        self.items
     }
 }

@@ -1,4 +1,4 @@
-ghost use Rattle.std.specs.Prelude.{◌≡◌, ◌++◌, ◌∷◌, [], OnOk};
+ghost use Rattle.std.specs.Prelude.{◌≡◌, ◌++◌, ◌∷◌, [], OnOk, OnErr};
 
 use crate::answer::Answer;
 use crate::command::Command;
@@ -49,7 +49,8 @@ impl Steps {
 
     /// One more entry, behind the others.
     pub fn push(&mut self, step: Step) -> Result<(), AllocError>
-        ensures { OnOk result (self.new ≡ self.old ++ step ∷ []) }
+        ensures ok { OnOk result (self.new ≡ self.old ++ step ∷ []) }
+        ensures err { OnErr result (self.new ≡ self.old) }
     {
         self.items.push(step)?;
         Ok(())
@@ -60,6 +61,13 @@ impl Steps {
         ensures { result.now ≡ self.now }
     {
         &self.items
+    }
+
+    /// The entries, in this order.
+    pub fn into_vec(self) -> Vec<Step>
+        ensures { result.items ≡ self }
+    {
+        self.items
     }
 }
 
@@ -105,7 +113,8 @@ impl StartRecords {
 
     /// One more record, behind the others.
     pub fn push(&mut self, start: StartRecord) -> Result<(), AllocError>
-        ensures { OnOk result (self.new ≡ self.old ++ start ∷ []) }
+        ensures ok { OnOk result (self.new ≡ self.old ++ start ∷ []) }
+        ensures err { OnErr result (self.new ≡ self.old) }
     {
         self.items.push(start)?;
         Ok(())
@@ -116,6 +125,13 @@ impl StartRecords {
         ensures { result.now ≡ self.now }
     {
         &self.items
+    }
+
+    /// The records, in this order.
+    pub fn into_vec(self) -> Vec<StartRecord>
+        ensures { result.items ≡ self }
+    {
+        self.items
     }
 }
 
@@ -161,7 +177,8 @@ impl CallRecords {
 
     /// One more record, behind the others.
     pub fn push(&mut self, call: CallRecord) -> Result<(), AllocError>
-        ensures { OnOk result (self.new ≡ self.old ++ call ∷ []) }
+        ensures ok { OnOk result (self.new ≡ self.old ++ call ∷ []) }
+        ensures err { OnErr result (self.new ≡ self.old) }
     {
         self.items.push(call)?;
         Ok(())
@@ -172,6 +189,13 @@ impl CallRecords {
         ensures { result.now ≡ self.now }
     {
         &self.items
+    }
+
+    /// The records, in this order.
+    pub fn into_vec(self) -> Vec<CallRecord>
+        ensures { result.items ≡ self }
+    {
+        self.items
     }
 }
 
@@ -209,7 +233,8 @@ impl CallerRecords {
 
     /// The records of one more caller, behind the others.
     pub fn push(&mut self, calls: CallRecords) -> Result<(), AllocError>
-        ensures { OnOk result (self.new ≡ self.old ++ calls ∷ []) }
+        ensures ok { OnOk result (self.new ≡ self.old ++ calls ∷ []) }
+        ensures err { OnErr result (self.new ≡ self.old) }
     {
         self.items.push(calls)?;
         Ok(())
@@ -220,6 +245,13 @@ impl CallerRecords {
         ensures { result.now ≡ self.now }
     {
         &self.items
+    }
+
+    /// The lists, in this order.
+    pub fn into_vec(self) -> Vec<CallRecords>
+        ensures { result.items ≡ self }
+    {
+        self.items
     }
 }
 
@@ -264,7 +296,8 @@ impl RunRounds {
 
     /// One more round, behind the others.
     pub fn push(&mut self, round: RunRound) -> Result<(), AllocError>
-        ensures { OnOk result (self.new ≡ self.old ++ round ∷ []) }
+        ensures ok { OnOk result (self.new ≡ self.old ++ round ∷ []) }
+        ensures err { OnErr result (self.new ≡ self.old) }
     {
         self.items.push(round)?;
         Ok(())
@@ -275,6 +308,13 @@ impl RunRounds {
         ensures { result.now ≡ self.now }
     {
         &self.items
+    }
+
+    /// The rounds, in this order.
+    pub fn into_vec(self) -> Vec<RunRound>
+        ensures { result.items ≡ self }
+    {
+        self.items
     }
 }
 

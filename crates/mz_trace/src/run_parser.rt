@@ -4,12 +4,12 @@ ghost use Rattle.std.specs.Prelude.{◌≡◌, ◌≤◌, ◌<◌, ◌+◌, ◌^
 ghost use Rattle.mz_trace.specs.Faults.{cuts};
 ghost use Rattle.mz_trace.specs.RawLines.{cut_of};
 ghost use Rattle.mz_trace.specs.RunLines.{blank_reader};
-ghost use Rattle.mz_trace.specs.RunParsing.{good, or_bad, rounds_from, blocks_from, statistic_from, if_last, statistics_at, round_line_read, tail_from, behind_profile, from_second, reading_of, listed_line, statistic_line, profile_line};
-ghost use Rattle.mz_trace.specs.RunFaults.{FaultIs, HasNoRun};
+ghost use Rattle.mz_trace.specs.RunParsing.{good, or_bad, rounds_from, blocks_from, statistic_from, if_last, statistics_at, round_line_read, tail_from, behind_profile, from_second, reading_of, listed_line, statistic_line, profile_line, FaultIs};
+ghost use Rattle.mz_trace.specs.RunFaults.{HasNoRun, TellsFirstBadLine};
 ghost use Rattle.mz_trace.specs.RunForms.{IsRunText};
 ghost use Rattle.mz_trace.specs.RunRests.{rounds_of_read, blocks_of_read, statistic_of_read};
 
-use crate::line::{RawLine, next_line};
+use crate::line::{RawLine, is_short, next_line};
 use crate::parser::profile;
 use crate::run::{Run, RunRounds};
 use crate::run_fault::RunFault;
@@ -48,7 +48,7 @@ pub struct StatisticRead<'a> {
 pub fn parse_run(alloc: Global, bytes: &[u8]) -> Result<(Run, Tail), RunFault>
     ensures text { IfOk result (λ x. IsRunText bytes.now x.0 x.1) }
     ensures none { IfErr result (HasNoRun bytes.now) }
-    ensures line { IfErr result (FaultIs (reading_of bytes.now)) }
+    ensures line { IfErr result (TellsFirstBadLine bytes.now) }
 {
     read_run(alloc, bytes)
 }
@@ -86,7 +86,7 @@ fn read_from_second(alloc: Global, bytes: &[u8]) -> Result<(Run, Figures), RunFa
 fn profile_line(alloc: Global, line: &RawLine<'_>) -> Result<Option<Profile>, AllocError>
     ensures { IfOk result (λ p. p ≡ profile_line (cut_of line.now)) }
 {
-    if !line.ended {
+    if !is_short(line) {
         return Ok(None);
     }
     let words = words(alloc, line.text)?;
@@ -143,7 +143,7 @@ fn read_rounds(alloc: Global, callers: u32, bytes: &[u8]) -> Result<RoundsRead<'
 fn read_line(alloc: Global, reader: RunReader, line: &RawLine<'_>) -> Result<Read, AllocError>
     ensures { IfOk result (λ r. r ≡ round_line_read reader (cut_of line.now)) }
 {
-    if !line.ended {
+    if !is_short(line) {
         return Ok(Read::Bad);
     }
     let words = words(alloc, line.text)?;
@@ -196,7 +196,7 @@ fn read_blocks(alloc: Global, number: u64, bytes: &[u8]) -> Result<BlocksRead<'_
 fn listed_line(alloc: Global, line: &RawLine<'_>) -> Result<Option<Listed>, AllocError>
     ensures { IfOk result (λ b. b ≡ listed_line (cut_of line.now)) }
 {
-    if !line.ended {
+    if !is_short(line) {
         return Ok(None);
     }
     let words = words(alloc, line.text)?;
@@ -253,7 +253,7 @@ fn read_statistic<'a>(
 fn statistic_line(alloc: Global, name: &[u8], line: &RawLine<'_>) -> Result<Option<u64>, AllocError>
     ensures { IfOk result (λ n. n ≡ statistic_line name.now (cut_of line.now)) }
 {
-    if !line.ended {
+    if !is_short(line) {
         return Ok(None);
     }
     let words = words(alloc, line.text)?;

@@ -1,36 +1,37 @@
 //! From a run to the bytes that are printed of it.
 //!
-//! - `words`: the words of a line.
-//! - `lines`: commands, events and answers, as words.
-//!
 //! Each function but `print_run` adds the text of its name to `out`. After an error a part of that
 //! text may stand there.
 
 ghost use Rattle.std.specs.Prelude.{◌≡◌, ◌++◌, ◌∷◌, [], ℕ, List, IfOk, OnOk, string_bytes, codes, length, map};
 ghost use Rattle.std.specs.List.{flat_map};
 ghost use Rattle.mz_trace.specs.Texts.{line_text};
-ghost use Rattle.mz_trace.specs.RunTexts.{run_text, run_round_lines, sections_from, section_lines, start_record_lines, call_record_lines, step_words, answer_words};
+ghost use Rattle.mz_trace.specs.declared.tail.Figures.{Figures as figures};
+ghost use Rattle.mz_trace.specs.RunForms.{IsRun, IsTail, IsRunText};
+ghost use Rattle.mz_trace.specs.RunTexts.{outcome_lines, run_text, run_round_lines, sections_from, section_lines, start_record_lines, call_record_lines, step_words, answer_words};
 ghost use Rattle.mz_trace.specs.TailTexts.{tail_text, listed_words, statistics_lines};
 
-mod lines;
-mod words;
-
 use crate::answer::Answer;
+use crate::printer::lines::{
+    print_answer, print_command, print_event, print_listed, print_space, print_start,
+};
 use crate::run::{CallRecord, CallRecords, Run, RunRound, StartRecord, Step};
 use crate::tail::{Figures, Listed, Statistics};
-use lines::{print_answer, print_command, print_event, print_listed, print_space, print_start};
 use std::alloc::{AllocError, Global};
 
 /// The text of a run: the profile, the rounds with the sections of their callers, and `end`.
-pub fn print_run(alloc: Global, run: &Run) -> Result<String, AllocError>
-    ensures { IfOk result (λ text. string_bytes text ≡ run_text run.now) }
+pub fn print_run(alloc: Global, run: &Run) -> Result<Vec<u8>, AllocError>
+    ensures printed { IfOk result (λ text. text.items ≡ run_text run.now) }
+
+    // With a tail behind it, this is a text of the run, where the value is one.
+    ensures text { IfOk result (λ text. (t : figures) → IsRun run.now → IsTail t → IsRunText (text.items ++ tail_text t) run.now t) }
 {
     let mut out = String::new(alloc);
     out.push_str("mzone-run 1\n")?;
     print_space(&mut out, &run.profile)?;
     print_rounds(&mut out, run.rounds.as_slice())?;
     out.push_str("end\n")?;
-    Ok(out)
+    Ok(out.into_bytes())
 }
 
 fn print_rounds(out: &mut String, rounds: &[RunRound]) -> Result<(), AllocError>
@@ -62,11 +63,10 @@ fn print_starts(out: &mut String, starts: &[StartRecord]) -> Result<(), AllocErr
 fn print_start_record(out: &mut String, outcome: &StartRecord) -> Result<(), AllocError>
     ensures { OnOk result (string_bytes out.new ≡ string_bytes out.old ++ flat_map line_text (start_record_lines outcome.now)) }
 {
-    out.push_str(">")?;
+    out.push_str("> ")?;
     print_start(out, outcome.line)?;
     out.push_str("\n")?;
-    print_steps(out, outcome.steps.as_slice())?;
-    print_answer_line(out, outcome.answer)
+    print_outcome(out, outcome.steps.as_slice(), outcome.answer)
 }
 
 fn print_sections(out: &mut String, callers: &[CallRecords]) -> Result<(), AllocError>
@@ -100,8 +100,15 @@ fn print_call_record(out: &mut String, outcome: &CallRecord) -> Result<(), Alloc
     out.push_str(">")?;
     print_command(out, outcome.command)?;
     out.push_str("\n")?;
-    print_steps(out, outcome.steps.as_slice())?;
-    print_answer_line(out, outcome.answer)
+    print_outcome(out, outcome.steps.as_slice(), outcome.answer)
+}
+
+/// The lines of a record behind its first.
+fn print_outcome(out: &mut String, steps: &[Step], answer: Answer) -> Result<(), AllocError>
+    ensures { OnOk result (string_bytes out.new ≡ string_bytes out.old ++ flat_map line_text (outcome_lines steps.now answer)) }
+{
+    print_steps(out, steps)?;
+    print_answer_line(out, answer)
 }
 
 fn print_steps(out: &mut String, steps: &[Step]) -> Result<(), AllocError>

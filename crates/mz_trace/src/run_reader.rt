@@ -1,12 +1,11 @@
 //! What is kept of the rounds of a printed run, and what the next line adds.
 
 ghost use Rattle.std.specs.Prelude.{◌≡◌, ◌<◌, ◌+◌, map, IfOk, OnOk, Bool, None, Some};
-ghost use Rattle.mz_trace.specs.RunLines.{blank_reader, closed_lists, closed_rounds, is_complete, next_caller, with_round, with_section, with_record, line_read, record_line_read, step_read, answer_read, asked_read, start_asked, call_asked, command_asked, heading_read, word_read, pair_read, with_start_record, with_call_record, round_read, caller_read, end_read, given_by};
+ghost use Rattle.mz_trace.specs.RunLines.{blank_reader, closed_lists, closed_rounds, is_complete, next_caller, with_round, with_section, with_record, line_read, record_line_read, step_read, answer_read, asked_read, start_asked, call_asked, command_asked, heading_read, word_read, pair_read, with_start_record, with_call_record, round_read, caller_read, end_read};
 
 use crate::answer::Answer;
 use crate::command::Command;
-use crate::given::GivenNames;
-use crate::name::BaseName;
+use crate::given::{GivenNames, given_by};
 use crate::round::RoundLine;
 use crate::run::{
     CallRecord, CallRecords, CallerRecords, RunRound, RunRounds, StartRecord, StartRecords, Steps,
@@ -68,16 +67,6 @@ pub enum Read {
     On(RunReader),
     /// It was the `end` of the rounds.
     End(RunRounds),
-}
-
-/// The name under which a command gives a block.
-fn given_by(command: &Command) -> Option<BaseName>
-    ensures { result ≡ given_by command.now }
-{
-    match command {
-        Command::Give { given, .. } => Some(given.base),
-        _ => None,
-    }
 }
 
 impl RunReader {

@@ -115,17 +115,13 @@ max_size_in_use 49904
 size_allocated 1048576
 ";
 
-/// The text that is printed of a text that is read, or the first line that is bad.
-fn read_again(alloc: Global, text: &str) -> Result<Result<String, u64>, Fail> {
-    match parse_run(alloc, text.as_bytes()) {
-        Ok((run, tail)) => {
-            let mut printed = print_run(alloc, &run)?;
-            printed.push_str(str::from_utf8(tail.bytes())?)?;
-            Ok(Ok(printed))
-        }
-        Err(RunFault::Bad { line }) => Ok(Err(line)),
-        Err(RunFault::NoMemory) => Ok(Err(0)),
-    }
+/// The text that is printed of a text that is read.
+fn read_again(alloc: Global, text: &str) -> Result<String, Fail> {
+    let (run, tail) = parse_run(alloc, text.as_bytes())?;
+    let printed = print_run(alloc, &run)?;
+    let mut whole = String::from_str(alloc, str::from_utf8(&printed)?)?;
+    whole.push_str(str::from_utf8(tail.bytes())?)?;
+    Ok(whole)
 }
 
 fn bad_line(alloc: Global, text: &str) -> Option<u64> {
@@ -153,7 +149,7 @@ fn thin_path(rt: HostRuntime) -> Result<(), Fail> {
     let alloc = rt.alloc();
     let whole = thin_path_without(alloc, 16)?;
     let printed = read_again(alloc, whole.as_str())?;
-    assert_eq!(rt; printed, Ok(whole));
+    assert_eq!(rt; printed, whole);
     let bad: [Option<u64>; 16] = [
         Some(1),
         Some(2),
@@ -182,10 +178,7 @@ fn thin_path(rt: HostRuntime) -> Result<(), Fail> {
 #[test]
 fn every_line(rt: HostRuntime) -> Result<(), Fail> {
     let printed = read_again(rt.alloc(), WHOLE)?;
-    match printed {
-        Ok(text) => assert_eq!(rt; text.as_str(), WHOLE),
-        Err(line) => assert_eq!(rt; line, 0),
-    }
+    assert_eq!(rt; printed.as_str(), WHOLE);
     Ok(())
 }
 
@@ -193,12 +186,13 @@ fn every_line(rt: HostRuntime) -> Result<(), Fail> {
 fn first_bad_lines(rt: HostRuntime) -> Result<(), Fail> {
     let head =
         "mzone-run 1\nspace 64 callers 1 magazines 1 nano 0 gen 1024 zones 1\nround\ncaller 0\n> malloc a 8\n";
-    let rows: [(&str, u64); 12] = [
+    let rows: [(&str, u64); 13] = [
         ("0 full 4294967296t0 16 16\n", 6),
         ("0 dry 4294967296 16 16\n", 6),
         ("00 full 0t0 16 16\n", 6),
         ("0 full 00t0 16 16\n", 6),
         ("0 full 0t0 16 16 \n", 6),
+        ("0 full 0t0 16 16 5 6 7 8 9 10 11 12\n", 6),
         ("= bytes 0F\n", 6),
         ("= bytes 0\n", 6),
         ("= bytes \n", 6),

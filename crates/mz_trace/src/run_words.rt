@@ -2,19 +2,18 @@
 
 ghost use Rattle.std.specs.Prelude.{◌≡◌, ◌<◌, map, length, position, not, Some, None, IfSome};
 ghost use Rattle.mz_base.specs.Names.{is_digit};
-ghost use Rattle.mz_trace.specs.Forms.{form_among};
-ghost use Rattle.mz_trace.specs.Reading.{base_of};
 ghost use Rattle.mz_trace.specs.RunWords.{small_number_of, place_in, zone_place_of, place_of, zone_event_in, run_event_in, short_event_in, long_event_in, event_in, step_in, hex_value, shown_of, block_answer_of, plain_answer_of, number_answer_in, pair_answer_in, served_answer_in, answer_in, start_of, command_of, range_of, listed_at, listed_in, statistic_in};
 
 use crate::answer::{Answer, Shown};
+use crate::checks::form_among;
 use crate::command::Command;
-use crate::form::{CALLER_FORMS, Form, ROUND_FORMS};
-use crate::reading;
+use crate::form::{CALLER_FORMS, ROUND_FORMS};
+use crate::reading::{self, zone};
 use crate::round::RoundLine;
 use crate::run::Step;
 use crate::tail::Listed;
 use crate::words::number;
-use mz_base::{Range, ZoneName};
+use mz_base::Range;
 use mz_history::{Event, Place};
 
 /// The number of a zone or of a magazine.
@@ -27,13 +26,6 @@ fn small_number(word: &[u8]) -> Option<u32>
     } else {
         None
     }
-}
-
-/// The name of a zone.
-fn zone(word: &[u8]) -> Option<ZoneName>
-    ensures { result ≡ base_of word.now }
-{
-    ZoneName::new(word)
 }
 
 /// The place of the first byte that is no digit.
@@ -356,13 +348,6 @@ pub fn answer(words: &[&[u8]]) -> Option<Answer>
         [_, _, _, _, ..] => None,
         [] => None,
     }
-}
-
-/// The form with this command word.
-fn form_among(forms: &[Form], word: &[u8]) -> Option<Form>
-    ensures { result ≡ form_among forms.now word.now }
-{
-    forms.iter().copied().find(|form| word == form.word())
 }
 
 /// A line at the start of a round.

@@ -1,4 +1,4 @@
-ghost use Rattle.std.specs.Prelude.{◌≡◌, ◌++◌, ◌∷◌, [], IfOk, OnOk};
+ghost use Rattle.std.specs.Prelude.{◌≡◌, ◌++◌, ◌∷◌, [], IfOk, OnOk, OnErr};
 ghost use Rattle.mz_trace.specs.TailTexts.{tail_text};
 
 use crate::run_printer::print_tail;
@@ -53,7 +53,8 @@ impl Listing {
 
     /// One more block, behind the others.
     pub fn push(&mut self, block: Listed) -> Result<(), AllocError>
-        ensures { OnOk result (self.new ≡ self.old ++ block ∷ []) }
+        ensures ok { OnOk result (self.new ≡ self.old ++ block ∷ []) }
+        ensures err { OnErr result (self.new ≡ self.old) }
     {
         self.items.push(block)?;
         Ok(())
@@ -64,6 +65,13 @@ impl Listing {
         ensures { result.now ≡ self.now }
     {
         &self.items
+    }
+
+    /// The blocks, in this order.
+    pub fn into_vec(self) -> Vec<Listed>
+        ensures { result.items ≡ self }
+    {
+        self.items
     }
 }
 

@@ -65,9 +65,8 @@ fn digits_value(word: &[u8]) -> Option<u64>
     requires { are_digits word.now ≡ true }
     ensures { result ≡ (if nat_lt (value_of word.now) (2 ^ 64) then Some (value_of word.now) else None) }
 {
-    let mut value: u64 = 0;
-    for c in word {
-        value = value.checked_mul(10)?.checked_add(u64::from(*c - b'0'))?;
+    match str::from_utf8(word) {
+        Ok(digits) => digits.parse().ok(),
+        Err(_) => unreachable!(),
     }
-    Some(value)
 }

@@ -7,5 +7,5 @@ joined out a b front back whole p q = whole ∙ ap (λ l. l ++ b) p ∙ ap (λ l
 
 pub returns : goal.returns
 returns c =
-    joined _ _ _ _ _ c.in_ok-extend_from_slice.ensures.items (ap (λ v. v.items) c.into_bytes-output.ensures.value ∙ c.in_ok-print_run.ensures)
+    joined _ _ _ _ _ c.in_ok-extend_from_slice.ensures.items c.in_ok-output.ensures.printed
     (c.bytes.ensures ∙ ap tail_text c.in_ok-tail.ensures)

@@ -1,4 +1,7 @@
-use Rattle.std.proofs.Common.{◌∙◌, ◌++◌, ap, sym}
+use Rattle.std.proofs.Common.{◌∙◌, ◌++◌, ap, sym, subst}
+use Rattle.mz_trace.specs.declared.tail.Figures.{Figures}
+use Rattle.mz_trace.specs.RunForms.{IsTail}
+use Rattle.mz_trace.proofs.NormalLemmas.{text_is_trace}
 use Rattle.mz_trace.specs.RunTexts.{run_text}
 use Rattle.mz_trace.specs.TailTexts.{tail_text}
 use Rattle.mz_run.proofs.BuiltTexts.{lines_fit, same_unbuilt, text_built}
@@ -17,8 +20,11 @@ returns-in-Some g c =
       first = same_unbuilt c.args.bytes.now c.in-Ok.trace text ∙ sym c.in-Some.ensures;
     }) c.bad_trace-in-Some.ensures
 
-pub serve-requires-after_bounds : goal.serve-requires-after_bounds
-serve-requires-after_bounds g c κs within = text_built c.args.bytes.now c.in-Ok.trace c.in-Ok.ensures.found (sym c.in_default.ensures)
+pub serve-requires-clause-trace : goal.serve-requires-clause-trace
+serve-requires-clause-trace g c κs within = text_is_trace c.args.bytes.now c.in-Ok.trace c.in-Ok.ensures.found
+
+pub serve-requires-clause-built : goal.serve-requires-clause-built
+serve-requires-clause-built g c κs within = text_built c.args.bytes.now c.in-Ok.trace c.in-Ok.ensures.found (sym c.in_default.ensures)
 
 pub returns : goal.returns
 returns g c =
@@ -28,6 +34,10 @@ returns g c =
       run = c.in_ok-run.run';
       text = text;
       built = same_unbuilt c.args.bytes.now c.in-Ok.trace text ∙ sym c.in_default.ensures;
-      lawful = c.in_ok-run.ensures.0;
-      printed = c.in_ok-output.ensures ∙ ap (λ figures. run_text c.in_ok-run.run' ++ tail_text figures) c.in_ok-run.ensures.1;
+      lawful = c.in_ok-run.ensures.lawful;
+      printed = record {
+        run = c.in_ok-run.ensures.has_text.0;
+        tail = subst (λ (f : Figures). IsTail f) c.in_ok-run.ensures.tail c.in_ok-run.ensures.has_text.1;
+        spelled = c.in_ok-output.ensures ∙ ap (λ figures. run_text c.in_ok-run.run' ++ tail_text figures) c.in_ok-run.ensures.tail;
+      };
     }

@@ -1,22 +1,9 @@
-use Rattle.std.proofs.Common.{arith, sym, ◌∙◌}
-use Rattle.std.proofs.lemmas.Bool.{cond-false, cond-true, lt-ltb}
-use Rattle.mz_trace.proofs.NumberLemmas.{value_more, value_overflows, value_whole}
+use Rattle.std.proofs.Common.{◌∙◌}
+use Rattle.mz_trace.proofs.NumberLemmas.{parsed_value, digits-IsUtf8}
 use Rattle.mz_trace.proofs.words.digits_value.Goals as goal
 
-pub returns-in_err-checked_mul : goal.returns-in_err-checked_mul
-returns-in_err-checked_mul c =
-    c.from_residual.ensures ∙ sym (cond-false _ _ _ (value_overflows c.args.word.now c.loop-c.c-index c.loop-c.value c.requires c.loop-c-test.true c.loop-c.invariant.0 (omega (arith, c.in_err-checked_mul.ensures))))
-
-pub returns-in_err-value : goal.returns-in_err-value
-returns-in_err-value c =
-    c.from_residual-in_err-value.ensures ∙ sym (cond-false _ _ _ (value_overflows c.args.word.now c.loop-c.c-index c.loop-c.value c.requires c.loop-c-test.true c.loop-c.invariant.0 (omega (arith, c.in_err-value.ensures, c.in_ok-checked_mul.ensures))))
-
-pub loop-c-preserved : goal.loop-c-preserved
-loop-c-preserved c =
-    let more = value_more c.args.word.now c.loop-c.c-index c.loop-c.value c.requires c.loop-c-test.true c.loop-c.invariant.0 in
-    (omega (arith, more, c.in_ok-value.ensures, c.in_ok-checked_mul.ensures), omega (arith, c.in_ok-value.ensures))
+pub unreachable-requires : goal.unreachable-requires
+unreachable-requires c = c.in-Err.ensures.cases.0 (digits-IsUtf8 c.args.word.now c.requires)
 
 pub returns : goal.returns
-returns c =
-    let e = value_whole c.args.word.now c.loop-c.c-index c.loop-c.value c.loop-c-test.false c.loop-c.invariant.0 in
-    rw (← e) (sym (cond-true _ _ _ (lt-ltb _ _ c.loop-c.invariant.1)))
+returns c = c.ok.ensures.value ∙ parsed_value c.args.word.now c.parse.result c.requires (rw c.in-Ok.ensures.cases.0 at c.parse.ensures.value.0)

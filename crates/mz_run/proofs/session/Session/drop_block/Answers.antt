@@ -1,4 +1,4 @@
-use Rattle.std.proofs.Common.{◌≤◌, refl, sym, ◌∙◌, arith}
+use Rattle.std.proofs.Common.{◌≤◌, ◌∙◌, arith}
 use Rattle.mz_run.proofs.SessionSound.{dropped-size}
 use Rattle.mz_run.proofs.TurnLemmas.{turn-dropped}
 use Rattle.mz_run.proofs.session.Session.drop_block.Goals as goal

@@ -1,4 +1,4 @@
-use Rattle.std.proofs.Common.{List, ℕ, refl, ap, sym, ◌∙◌}
+use Rattle.std.proofs.Common.{refl, ap, sym, ◌∙◌}
 use Rattle.mz_trace.specs.declared.name.Name.{Name}
 use Rattle.mz_trace.specs.Names.{name_word}
 use Rattle.mz_run.specs.NamesMap.{block_of}

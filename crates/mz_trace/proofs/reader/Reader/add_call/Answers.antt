@@ -9,7 +9,7 @@ returns c = λ callers. record {
   begun = refl;
   calling = refl;
   given = c.in_ok-note_given.ensures;
-  rounds = λ ready. open_changed (with_call c.args.caller c.args.command) c.args.self.now.begun c.args.self.now.rounds c.args.self.now.open _ (ap (with_lists c.args.self.now.open) c.in_ok-push.ensures);
-  lists = λ e. rw c.in_ok-push.ensures (simp length-set e);
+  rounds = λ ready. open_changed (with_call c.args.caller c.args.command) c.args.self.now.begun c.args.self.now.rounds c.args.self.now.open _ (ap (with_lists c.args.self.now.open) c.in_ok-push.ensures.ok);
+  lists = λ e. rw c.in_ok-push.ensures.ok (simp length-set e);
   ready = λ ready. ready;
 }

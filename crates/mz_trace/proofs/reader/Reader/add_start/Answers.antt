@@ -8,7 +8,7 @@ returns c = λ callers. record {
   begun = refl;
   calling = refl;
   given = λ base. refl;
-  rounds = λ ready. open_changed (with_start c.args.line) c.args.self.now.begun c.args.self.now.rounds c.args.self.now.open _ (ap (with_lines c.args.self.now.open) c.in_ok-push.ensures);
+  rounds = λ ready. open_changed (with_start c.args.line) c.args.self.now.begun c.args.self.now.rounds c.args.self.now.open _ (ap (with_lines c.args.self.now.open) c.in_ok-push.ensures.ok);
   lists = λ e. e;
   ready = λ ready. ready;
 }

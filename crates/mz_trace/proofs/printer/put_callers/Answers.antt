@@ -1,7 +1,0 @@
-use Rattle.std.specs.Prelude.{string_bytes}
-use Rattle.mz_trace.proofs.PrintLemmas.{callers_more}
-use Rattle.mz_trace.proofs.printer.put_callers.Goals as goal
-
-pub loop-caller-preserved : goal.loop-caller-preserved
-loop-caller-preserved c =
-    callers_more c.args.lists.now c.loop-caller.caller c.index-lists-caller.result (string_bytes c.args.out.now) (string_bytes c.loop-caller.out) (string_bytes c.put_calls.new.out) c.loop-caller-test.true c.index-lists-caller.is c.loop-caller.invariant (rw c.as_slice.ensures at c.in_ok-put_calls.ensures)

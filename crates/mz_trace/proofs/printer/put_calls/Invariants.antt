@@ -1,8 +1,0 @@
-use Rattle.std.proofs.Common.{◌≡◌, ◌++◌, take, map}
-use Rattle.std.specs.Prelude.{string_bytes}
-use Rattle.mz_trace.specs.Lines.{call}
-use Rattle.mz_trace.specs.Texts.{lines_text}
-use Rattle.mz_trace.proofs.printer.put_calls.Given as goal
-
-abbrev pub invariant-loop-command : goal.invariant-loop-command
-invariant-loop-command l = string_bytes l.out ≡ string_bytes l.initial.out ++ lines_text (map (λ c. call l.caller c) (take l.command-index l.commands))

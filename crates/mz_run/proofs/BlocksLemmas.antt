@@ -1,8 +1,8 @@
 -- Blocks that are tiled: each of them, and what adding and dropping one leaves.
-use Rattle.std.proofs.Common.{◌≡◌, ℕ, zero, suc, ◌+◌, ◌<◌, ◌≤◌, Bool, true, false, not, List, [], ◌∷◌, length, get_or, refl, ap, sym, subst, ◌∙◌, inl, inr, arith}
+use Rattle.std.proofs.Common.{◌≡◌, ℕ, ◌+◌, ◌<◌, ◌≤◌, Bool, true, false, not, List, [], ◌∷◌, refl, ap, sym, subst, ◌∙◌, inl, inr, arith}
 use Rattle.std.specs.Prelude.{◌||◌, ◌==◌, nat_le, nat_lt, sum_by}
 use Rattle.std.specs.List.{list_all}
-use Rattle.std.proofs.lemmas.Bool.{and_parts, and_from, and_left, or_cases, or_left, or_right, cases_Bool, false≢true, leb-true, le-leb, ltb-true, ltb-false, eqb-true, eq-eqb, ne_eqb, lt-ltb, cond-true, cond-false, cond_both}
+use Rattle.std.proofs.lemmas.Bool.{and_parts, and_from, and_left, or_cases, or_left, or_right, cases_Bool, false≢true, leb-true, le-leb, ltb-true, ltb-false, eqb-true, eq-eqb, ne_eqb, cond-true, cond-false, cond_both}
 use Rattle.std.proofs.lemmas.List.Sums.{sum_by-cons}
 use Rattle.mz_base.specs.Space.{Block, block_end, blocks_apart, same_block}
 use Rattle.mz_history.specs.State.{insert_by, has_block}
@@ -181,47 +181,7 @@ drop-later b bs x c h above =
     cond-true (not (same_block c b)) (b ∷ drop_block c bs) (drop_block c bs)
     (ap not (and_left (c.first == b.first) (c.size == b.size) (ne_eqb c.first b.first (λ e. omega arith))))
 
--- which blocks are listed
-pub has-at : (bs : List Block) (i : ℕ) (d : Block) → i < length bs → has_block bs (get_or bs i d) ≡ true
-has-at [] i d within = absurd (omega arith)
-has-at (b ∷ bs) zero d within = or_left (same_block b b) (has_block bs b) (same_block-refl b)
-has-at (b ∷ bs) (suc i) d within = or_right (same_block (get_or bs i d) b) (has_block bs (get_or bs i d)) (has-at bs i d (omega arith))
-
-pub has-add : (bs : List Block) (b : Block) → has_block (add_block b bs) b ≡ true
-unfolding insert_by
-has-add [] b = or_left (same_block b b) false (same_block-refl b)
-has-add (c ∷ cs) b =
-    cond_both (nat_lt b.first c.first) (b ∷ c ∷ cs) (c ∷ add_block b cs) (λ l. has_block l b ≡ true)
-    (λ _. or_left (same_block b b) (has_block (c ∷ cs) b) (same_block-refl b))
-    (λ _. or_right (same_block b c) (has_block (add_block b cs) b) (has-add cs b))
-
-pub has-add_other : (bs : List Block) (b d : Block) → has_block bs d ≡ true → has_block (add_block b bs) d ≡ true
-unfolding insert_by
-has-add_other [] b d among = absurd (false≢true among)
-has-add_other (c ∷ cs) b d among =
-    cond_both (nat_lt b.first c.first) (b ∷ c ∷ cs) (c ∷ add_block b cs) (λ l. has_block l d ≡ true)
-    (λ _. or_right (same_block d b) (has_block (c ∷ cs) d) among)
-    (λ _. elim (or_cases (same_block d c) (has_block cs d) among) [
-      | inl here ↦ or_left (same_block d c) (has_block (add_block b cs) d) here
-      | inr later ↦ or_right (same_block d c) (has_block (add_block b cs) d) (has-add_other cs b d later)
-    ])
-
-pub has-drop_other : (bs : List Block) (c d : Block) → has_block bs d ≡ true → same_block c d ≡ false → has_block (drop_block c bs) d ≡ true
-has-drop_other [] c d among other = absurd (false≢true among)
-has-drop_other (b ∷ bs) c d among other =
-    elim (or_cases (same_block d b) (has_block bs d) among) [
-      | inl here ↦
-          let is = same_block-true d b here in
-          let kept : drop_block c (b ∷ bs) ≡ b ∷ drop_block c bs =
-          cond-true (not (same_block c b)) (b ∷ drop_block c bs) (drop_block c bs) (ap not (subst (λ e. same_block c e ≡ false) is other)) in
-          subst (λ l. has_block l d ≡ true) (sym kept) (or_left (same_block d b) (has_block (drop_block c bs) d) here)
-      | inr later ↦
-          let rest = has-drop_other bs c d later other in
-          cond_both (not (same_block c b)) (b ∷ drop_block c bs) (drop_block c bs) (λ l. has_block l d ≡ true)
-          (λ _. or_right (same_block d b) (has_block (drop_block c bs) d) rest) (λ _. rest)
-    ]
-
--- the sizes and the number of blocks
+-- the sizes of blocks
 pub sum-add : (bs : List Block) (b : Block) → sum_by (λ c. c.size) (add_block b bs) ≡ b.size + sum_by (λ c. c.size) bs
 unfolding insert_by
 sum-add [] b = sum_by-cons (λ (c : Block). c.size) b []
@@ -259,51 +219,3 @@ sum-within (b ∷ bs) x h =
     let rest = sum-within bs (block_end b) h.2 in
     let whole = sum_by-cons (λ (c : Block). c.size) b bs in
     omega arith
-
--- nor than the region
-pub sum-le : (bs : List Block) (x : ℕ) → IsTiled x bs → sum_by (λ c. c.size) bs ≤ region_end
-sum-le bs x h = let k = sum-within bs x h in omega arith
-
-pub length-add : (bs : List Block) (b : Block) → length (add_block b bs) ≡ length bs + 1
-unfolding insert_by
-length-add [] b = refl
-length-add (c ∷ cs) b =
-    cond_both (nat_lt b.first c.first) (b ∷ c ∷ cs) (c ∷ add_block b cs) (λ l. length l ≡ length (c ∷ cs) + 1)
-    (λ _. omega arith)
-    (λ _. let rest = length-add cs b in omega arith)
-
-pub length-drop_block : (bs : List Block) (x : ℕ) (c : Block) → IsTiled x bs → has_block bs c ≡ true → length bs ≡ length (drop_block c bs) + 1
-length-drop_block [] x c h among = absurd (false≢true among)
-length-drop_block (b ∷ bs) x c h among =
-    elim (or_cases (same_block c b) (has_block bs c) among) [
-      | inl here ↦
-          let is = same_block-true c b here in
-          let left = ap (λ l. length l) (drop-first b bs x h) in
-          subst (λ d. length (b ∷ bs) ≡ length (drop_block d (b ∷ bs)) + 1) (sym is) (omega arith)
-      | inr later ↦
-          let low = (tiled-member bs (block_end b) c h.2 later).low in
-          let some = h.1.some in
-          let rest = length-drop_block bs (block_end b) c h.2 later in
-          let left = ap (λ l. length l) (drop-later b bs x c h (omega arith)) in
-          omega arith
-    ]
-
--- a block that ends at or before all of them goes to their front
-pub add-front : (b : Block) (bs : List Block) (x : ℕ) → IsTiled x (b ∷ bs) → add_block b bs ≡ b ∷ bs
-unfolding insert_by
-add-front b [] x h = refl
-add-front b (c ∷ cs) x h =
-    let some = h.1.some in
-    let low = h.2.0 in
-    cond-true (nat_lt b.first c.first) (b ∷ c ∷ cs) (c ∷ add_block b cs) (lt-ltb b.first c.first (omega arith))
-
--- the blocks, sorted by address
-pub sorted_blocks : List Block → List Block
-sorted_blocks [] = []
-sorted_blocks (b ∷ bs) = add_block b (sorted_blocks bs)
-
--- tiled blocks are sorted
-pub sorted-tiled : (bs : List Block) (x : ℕ) → IsTiled x bs → sorted_blocks bs ≡ bs
-unfolding sorted_blocks
-sorted-tiled [] x h = refl
-sorted-tiled (b ∷ bs) x h = ap (λ l. add_block b l) (sorted-tiled bs (block_end b) h.2) ∙ add-front b bs x h

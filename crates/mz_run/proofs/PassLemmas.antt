@@ -27,13 +27,6 @@ stopped_front n u (x ∷ xs) ys h =
     (elim (is_built_line x) as (λ b. (if b then passed (n + 1) xs else Err (record { line = n })) ≡ Err u → (if b then passed (n + 1) (xs ++ ys) else Err (record { line = n })) ≡ Err u)
     [ true ↦ λ e. stopped_front (n + 1) u xs ys e | false ↦ λ e. e ]) h
 
--- one line that is built, or isn't
-pub passed_one : (n : ℕ) (x : Line) (xs : List Line) → is_built_line x ≡ true → passed n (x ∷ xs) ≡ passed (n + 1) xs
-passed_one n x xs h = rw h refl
-
-pub stopped_one : (n : ℕ) (x : Line) (xs : List Line) → is_built_line x ≡ false → passed n (x ∷ xs) ≡ Err (record { line = n })
-stopped_one n x xs h = rw h refl
-
 -- as many lines as were passed over
 pub passed_count : (n m : ℕ) (xs : List Line) → passed n xs ≡ Ok m → m ≡ n + length xs
 passed_count n m [] h = let same : n ≡ m = cc in omega arith

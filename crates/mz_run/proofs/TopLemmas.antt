@@ -6,7 +6,7 @@ use Rattle.mz_io.specs.Count.{Rose}
 use Rattle.mz_run.specs.declared.status.Status.{Status}
 use Rattle.mz_run.specs.declared.status.Status.TheVariants.{Done, No, Usage, BadInput, ReadFault, WriteFault, NoMemory, TooLong}
 use Rattle.mz_run.specs.Built.{HasUnbuilt}
-use Rattle.mz_run.specs.Top.{most_bytes, Seen, IsInput, IsTooLong, TellsBadLine, IsRefusal, no_trace, not_built, RunEnds, CheckEnds}
+use Rattle.mz_run.specs.Top.{most_bytes, Seen, IsInput, IsTooLong, SaysBadLine, IsRefusal, no_trace, not_built, RunEnds, CheckEnds}
 use Rattle.mz_trace.specs.Faults.{bad_line_of}
 
 -- a source that told its bytes and gave all of them gave just these
@@ -31,7 +31,7 @@ never_too_long before after bytes given told few more =
     absurd (omega (arith, no_more_given bytes given after read, more.count, few))
 
 -- bytes without a bad line are told to have none
-never_bad : (bytes output : List ℕ) → bad_line_of bytes ≡ None → ¬ TellsBadLine bytes output
+never_bad : (bytes output : List ℕ) → bad_line_of bytes ≡ None → ¬ SaysBadLine bytes output
 never_bad bytes output good tells = let bad = tells.bad in cc
 
 -- and built ones aren't refused
@@ -65,7 +65,7 @@ check_completeness before after Done bytes ends reads writes told few good = inl
 check_completeness before after No bytes ends reads writes told few good =
     let says = ends.1 in
     let same : bytes ≡ says.0 = told_input before.left after.left bytes says.0 told says.1 in
-    absurd (never_bad bytes ends.0 good (subst (λ (l : List ℕ). TellsBadLine l ends.0) (sym same) says.2))
+    absurd (never_bad bytes ends.0 good (subst (λ (l : List ℕ). SaysBadLine l ends.0) (sym same) says.2))
 check_completeness before after Usage bytes ends reads writes told few good = absurd (ends.1.2)
 check_completeness before after BadInput bytes ends reads writes told few good = absurd (ends.1.2)
 check_completeness before after ReadFault bytes ends reads writes told few good = absurd (reads ends.0)

@@ -118,26 +118,26 @@ pub record IsRunOutput (bytes output : List ℕ) : Type 0 where
   pub lawful : IsLawfulRun trace run
   pub printed : IsRunText output run (tail_of run)
 
--- the output tells the first bad line of the bytes, which are no text of a trace
-pub record TellsBadLine (bytes output : List ℕ) : Type 0 where
+-- the output says the first bad line of the bytes, which are no text of a trace
+pub record SaysBadLine (bytes output : List ℕ) : Type 0 where
   pub line : ℕ
   pub why : Why
   pub bad : bad_line_of bytes ≡ Some (line, why)
   pub printed : output ≡ bad_trace line (why_number why)
 
--- the output tells the first line that isn't built of the trace whose text the bytes are
-pub record TellsUnbuiltLine (bytes output : List ℕ) : Type 0 where
+-- the output says the first line that isn't built of the trace whose text the bytes are
+pub record SaysUnbuiltLine (bytes output : List ℕ) : Type 0 where
   pub line : ℕ
   pub unbuilt : HasUnbuilt bytes line
   pub printed : output ≡ bad_trace line unbuilt_why
 
--- the output tells why the bytes aren't run
+-- the output says why the bytes aren't run
 pub data IsRefusal (bytes output : List ℕ) : Type 0 where
-  no_trace : TellsBadLine bytes output → IsRefusal bytes output
-  not_built : TellsUnbuiltLine bytes output → IsRefusal bytes output
+  no_trace : SaysBadLine bytes output → IsRefusal bytes output
+  not_built : SaysUnbuiltLine bytes output → IsRefusal bytes output
 
 -- there were too many bytes, and the output says so
-pub record TellsTooLong (before after : Option (List ℕ)) (output : List ℕ) : Type 0 where
+pub record SaysTooLong (before after : Option (List ℕ)) (output : List ℕ) : Type 0 where
   pub bytes : List ℕ
   pub input : IsTooLong before after bytes
   pub printed : output ≡ too_long
@@ -151,12 +151,12 @@ RunSays bytes _ output = ⊥
 -- what `check` says of a whole input
 abbrev pub CheckSays : List ℕ → Status → List ℕ → Type 0
 CheckSays bytes Done output = HasTrace bytes × (output ≡ good_trace)
-CheckSays bytes No output = TellsBadLine bytes output
+CheckSays bytes No output = SaysBadLine bytes output
 CheckSays bytes _ output = ⊥
 
 -- what a call says of the bytes that a source gave: that they are too many, or what it says of the whole input
 abbrev pub Says : (List ℕ → Status → List ℕ → Type 0) → Option (List ℕ) → Option (List ℕ) → Status → List ℕ → Type 0
-Says says before after TooLong output = TellsTooLong before after output
+Says says before after TooLong output = SaysTooLong before after output
 Says says before after status output = (bytes : List ℕ) × IsInput before after bytes × says bytes status output
 
 -- an output for this status was written

@@ -1,2 +1,2 @@
 mod Gift
-pub mod Calls
+mod TakesLemmas

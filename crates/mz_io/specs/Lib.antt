@@ -1,3 +1,4 @@
 pub mod Count
 pub mod Stream
 pub mod Memory
+pub mod Outside

@@ -1,6 +1,6 @@
-ghost use Rattle.std.specs.Prelude.{◌≤◌, ◌<◌, ℕ, List, Option, IfOk, length};
+ghost use Rattle.std.specs.Prelude.{◌≤◌, ◌<◌, ℕ, List, Option, IfOk, OnOk, OnErr, length, take};
 ghost use Rattle.mz_io.specs.Count.{HasCause};
-ghost use Rattle.mz_io.specs.Stream.{WriteTakes};
+ghost use Rattle.mz_io.specs.Stream.{Takes, WriteTakes};
 
 use crate::source::Failed;
 
@@ -19,4 +19,17 @@ pub trait Sink {
         ensures some { IfOk result (λ n. 0 < length piece.now → 0 < n) }
         ensures bytes { WriteTakes (taken self.old) (taken self.new) result piece.now }
         ensures cause { HasCause (faults self.old) (faults self.new) result };
+}
+
+/// Writes all of an output. At `Failed` the sink has taken the front of it.
+pub fn write_all<K: Sink>(sink: &mut K, output: &[u8]) -> Result<(), Failed>
+    ensures whole { OnOk result (Takes (K.taken sink.old) (K.taken sink.new) output.now) }
+    ensures front { OnErr result ((k : ℕ) × Takes (K.taken sink.old) (K.taken sink.new) (take k output.now)) }
+    ensures cause { HasCause (K.faults sink.old) (K.faults sink.new) result }
+{
+    let mut at = 0;
+    while at < output.len() {
+        at += sink.write(&output[at..])?;
+    }
+    Ok(())
 }

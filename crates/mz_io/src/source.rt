@@ -15,8 +15,8 @@ pub trait Source {
     /// How many calls have failed, a number that doesn't fall.
     ghost faults: { Self → ℕ };
 
-    /// Puts bytes at the front of `buf` and returns how many. In a buffer that has room, none come
-    /// only at the end of the input. Of the buffer behind these bytes nothing is said, nor of the
+    /// Puts bytes at the front of `buf` and returns how many. Where the source tells its bytes, none
+    /// come in a buffer that has room only at the end of the input. Of the buffer behind these bytes nothing is said, nor of the
     /// whole buffer at `Failed`.
     fn read(&mut self, buf: &mut [u8]) -> Result<usize, Failed>
         ensures bound { IfOk result (λ n. n ≤ length buf.new) }

@@ -8,7 +8,7 @@ use std::io::Write;
 use std::marker::Model;
 
 /// A sink over a writer of std, as standard output. It tells no bytes. Each call is one write and
-/// then one flush of the writer, so at `Ok` nothing stays behind in a writer with a buffer. An error
+/// then one flush of the writer. An error
 /// of either is a call that failed, and so is a write that takes nothing of a piece that has bytes.
 /// Where it is the flush that fails, the writer may have taken some of the piece all the same.
 /// Contracts see how many calls have failed; the count stays once it stands at 2^64 - 1.

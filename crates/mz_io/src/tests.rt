@@ -35,6 +35,20 @@ impl Write for Broken {
     }
 }
 
+// A writer that takes two bytes of a piece and no more.
+#[derive(Drop)]
+struct Slow;
+
+impl Write for Slow {
+    fn write(&mut self, bytes: &[u8]) -> io::Result<usize> {
+        Ok(bytes.len().min(2))
+    }
+
+    fn flush(&mut self) -> io::Result<()> {
+        Ok(())
+    }
+}
+
 // A writer that takes everything, and whose flushes fail.
 #[derive(Drop)]
 struct Stuck;
@@ -128,6 +142,24 @@ fn a_std_sink_hands_its_bytes_to_the_writer(rt: HostRuntime) {
     assert_eq!(rt; write_once(&mut sink, b"hi"), Some(2));
     assert_eq!(rt; sink.faults(), 0);
     assert_eq!(rt; written.as_slice(), b"hi".as_slice());
+}
+
+#[test]
+fn a_short_write_takes_what_its_writer_took(rt: HostRuntime) {
+    let mut sink = StdSink::new(Slow);
+    assert_eq!(rt; write_once(&mut sink, b"abc"), Some(2));
+    assert_eq!(rt; sink.faults(), 0);
+}
+
+#[test]
+fn an_output_is_written_whole_or_cut_short_at_a_fault(rt: HostRuntime) -> Result<(), Fail> {
+    let alloc = rt.alloc();
+    let mut sink = MemSink::new(alloc, 8, 3, [2].to_vec(alloc)?)?;
+    assert_eq!(rt; write_all(&mut sink, b"hello"), Ok(()));
+    assert_eq!(rt; sink.bytes(), b"hello".as_slice());
+    assert_eq!(rt; write_all(&mut sink, b"abc"), Err(Failed));
+    assert_eq!(rt; sink.bytes(), b"hello".as_slice());
+    Ok(())
 }
 
 #[test]

@@ -1,3 +1,5 @@
 mod NameLemmas
 pub mod SizeLemmas
 pub mod SpaceLemmas
+mod IdleRunLemmas
+mod FreeRunLemmas

@@ -19,11 +19,7 @@ unit_of-positive Small = omega arith
 unit_of-positive Medium = omega arith
 unit_of-positive Large = omega arith
 
--- the good size is a least multiple of its range's unit
-pub good_size_of-by_multiple : (n : ℕ) → good_size_of n ≡ least_multiple (unit_of (route_of n)) (max n 1)
-good_size_of-by_multiple n = refl
-
--- it holds the request, and at least 1 byte
+-- the good size holds the request, and at least 1 byte
 pub good_size_of-holds : (n : ℕ) → max n 1 ≤ good_size_of n
 good_size_of-holds n = least_multiple-above (unit_of (route_of n)) (max n 1) (unit_of-positive (route_of n))
 

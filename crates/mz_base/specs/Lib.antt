@@ -1,5 +1,11 @@
 pub mod Space
+pub mod Site
 pub mod Sizes
 pub mod Limits
 pub mod Names
+pub mod Room
+pub mod IdleRuns
+pub mod FreeRuns
+pub mod Lists
 pub mod Laws
+pub mod Codes

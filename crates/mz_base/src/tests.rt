@@ -95,3 +95,14 @@ fn a_zone_name_is_a_letter_and_at_most_fifteen_letters_or_digits(
     }
     Ok(())
 }
+
+#[test]
+fn items_are_a_list(rt: HostRuntime) -> Result<(), Fail> {
+    let mut items = Items::new(rt.alloc());
+    items.push(3u64)?;
+    items.push(1)?;
+    assert_eq!(rt; items.as_slice(), [3, 1].as_slice());
+    let again = Items::of(items.into_vec());
+    assert_eq!(rt; again.as_slice(), [3, 1].as_slice());
+    Ok(())
+}

@@ -12,7 +12,7 @@ use Rattle.std.specs.Vec.{with_items}
 use Rattle.std.specs.contracts.alloc.Global as G
 use Rattle.std.specs.contracts.impls.GlobalAllocator.TheImpl as GA
 use Rattle.std_alloc.proofs.SendSync.{Vec-send}
-use Rattle.mz_ground.specs.Site.{Site}
+use Rattle.mz_base.specs.Site.{Site}
 use Rattle.mz_ground.specs.Ownership.{tickets, plot_owns, kept_owns}
 use Rattle.mz_ground.specs.contracts.raw.Sole as Sole
 use Rattle.mz_ground.specs.contracts.raw.Sole.TheInside as Inside

@@ -7,7 +7,7 @@ use Rattle.std.specs.List.{AllWithin}
 use denote.RawPtr.{Ptr}
 use Rattle.std.specs.Option.{option_or}
 use Rattle.std_alloc.specs.declared.vec.lodged.Lodged.{Lodged}
-use Rattle.mz_ground.specs.Site.{Site}
+use Rattle.mz_base.specs.Site.{Site}
 use Rattle.mz_ground.specs.Place.{IsAt}
 use Rattle.mz_ground.specs.Marks.{AreAll, marked, written}
 use Rattle.mz_ground.specs.declared.raw.Deed.{Deed}
@@ -182,16 +182,6 @@ took k j k' u q n same t =
     let F = λ (m : Kept). KeptOf k' m.space m.first m.quantum (marked m.lent q n true) m.bytes × PlotOf u m.space (m.first + m.quantum * q) (take (m.quantum * n) (drop (m.quantum * q) m.bytes)) in
     subst F same t
 
--- what may come back
-pub may_put : (Q : ℕ) (p : Ptr) (a : ℕ) (lent : List Bool) (r : Option Root) (k j : Kept) (u : Plot) (q n : ℕ) → IsGround Q p a lent r k → j ≡ k → q + n ≤ length lent → u.space ≡ k.space → u.first ≡ a + Q * q → length u.bytes ≡ Q * n
-    → (0 < j.quantum) × (length j.bytes ≡ j.quantum * length j.lent) × (q + n ≤ length j.lent) × (u.space ≡ j.space) × (u.first ≡ j.first + j.quantum * q) × (length u.bytes ≡ j.quantum * n)
-may_put Q p a lent r k j u q n was same within space first long =
-    let F = λ (R : ℕ). (0 < R) × (length k.bytes ≡ R * length k.lent) × (q + n ≤ length k.lent) × (u.space ≡ k.space) × (u.first ≡ k.first + R * q) × (length u.bytes ≡ R * n) in
-    let G = λ (m : Kept). (0 < m.quantum) × (length m.bytes ≡ m.quantum * length m.lent) × (q + n ≤ length m.lent) × (u.space ≡ m.space) × (u.first ≡ m.first + m.quantum * q) × (length u.bytes ≡ m.quantum * n) in
-    let L = λ (l : List Bool). q + n ≤ length l in
-    let flags = sym was.flags in
-    subst G (sym same) (subst F (sym was.quantum) (was.filled, was.size ∙ ap (λ l. Q * length l) flags, subst L flags within, space, first ∙ ap (λ b. b + Q * q) (sym was.at), long))
-
 -- what is there once it came back
 pub took_back : (k j k' : Kept) (ps : List ℕ) (q n : ℕ) → j ≡ k → AreAll j.lent q n true × KeptOf k' j.space j.first j.quantum (marked j.lent q n false) (written j.bytes (j.quantum * q) ps)
     → AreAll k.lent q n true × KeptOf k' k.space k.first k.quantum (marked k.lent q n false) (written k.bytes (k.quantum * q) ps)
@@ -245,13 +235,6 @@ span_of_ground Q p a lent r k l u n was all out plot laid =
     let F = λ (b : ℕ). IsSpan l.0 b l.1 r in
     let rooted : HasItsRoot k.space a (Q * n) r = root_of_span k.space a Q (Q * n) lent r was.filled (ap (λ m. Q * m) all) (subst C all out) was.rooted in
     subst F here (span_of_quanta Q p a lent r r k l u 0 n was (omega arith) plot laid (subst A (sym here) rooted))
-
--- and its bytes
-pub bytes_of_ground : (Q : ℕ) (p : Ptr) (a : ℕ) (lent : List Bool) (r : Option Root) (k : Kept) (n : ℕ) → IsGround Q p a lent r k → n ≡ length lent → take (k.quantum * n) (drop (k.quantum * 0) k.bytes) ≡ k.bytes
-bytes_of_ground Q p a lent r k n was all =
-    let none : k.quantum * 0 ≡ 0 = mul-zero k.quantum in
-    let whole : k.quantum * n ≡ length k.bytes = ap (λ m. k.quantum * m) all ∙ ap (λ R. R * length lent) was.quantum ∙ sym was.size in
-    ap (λ j. take (k.quantum * n) (drop j k.bytes)) none ∙ ap (λ j. take j k.bytes) whole ∙ take-length k.bytes
 
 -- where a span of whole quanta is
 pub quantum_at : (Q F A f a : ℕ) → 0 < Q → f ≡ F → a ≡ A → A ≤ F → (F - A) % Q ≡ 0 → F ≡ A + Q * ((f - a) / Q)

@@ -42,7 +42,7 @@ use Rattle.std_alloc.specs.contracts.vec.lodge as LG
 use Rattle.std_alloc.specs.contracts.vec.lodged.Vec+T+Lodged.dislodge as DL
 use Rattle.std_alloc.proofs.vec.Vec.TheLaws as vec-laws
 use Rattle.std_alloc.proofs.vec.lodged.Lodged.TheLaws as lodged-laws
-use Rattle.mz_ground.specs.Site.{Site}
+use Rattle.mz_base.specs.Site.{Site}
 use Rattle.mz_ground.specs.Ownership.{lies_in}
 use Rattle.mz_ground.specs.contracts.raw.Sole as Sole
 use Rattle.mz_ground.proofs.Walks.{bare, single, makes_single}

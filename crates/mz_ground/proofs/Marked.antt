@@ -1,6 +1,6 @@
 -- Flags that are set in a row.
 use Rattle.std.proofs.Common.{◌≡◌, ℕ, zero, suc, ◌+◌, ◌-◌, ◌<◌, ◌≤◌, List, [], ◌∷◌, ◌++◌, Bool, true, false, length, get_or, take, drop, replicate, refl, sym, ap, ◌∙◌, subst, arith, length-append, length-drop}
-use Rattle.std.proofs.lemmas.List.{length-take-le, length-replicate, get_or-drop, get_or-take, get_or-append_right, get_or_append_left, get_or-replicate}
+use Rattle.std.proofs.lemmas.List.{length-take-le, length-replicate, get_or-drop}
 use mathlib.Core.Bool.{beq}
 use Rattle.std.specs.List.{AllWithin}
 use Rattle.mz_ground.specs.Marks.{AreAll, marked, written}
@@ -50,24 +50,3 @@ none_set ys fs m e f each =
     let F = λ (l : List Bool). (k : ℕ) (d : Bool) → 0 ≤ k → k < length l → beq (get_or l k d) true ≡ false in
     let these = subst F e each in
     are_all false fs 0 m m (omega arith) (omega arith) (λ k d low high. not_set (get_or fs k d) (these k d low (omega arith)))
-
--- where it was set
-pub marked-in : {X : Type 0} (v : X) (xs : List X) (q n k : ℕ) (d : X) → q + n ≤ length xs → q ≤ k → k < q + n → get_or (marked xs q n v) k d ≡ v
-marked-in v xs q n k d h low high =
-    let rest = drop (q + n) xs in
-    let set : k - q < length (replicate n v) = let long : length (replicate n v) ≡ n = length-replicate n v in omega arith in
-    get_or-append_right (take q xs) (replicate n v ++ rest) q k d (length-take-le q xs (omega arith)) low ∙ get_or_append_left (replicate n v) rest d (k - q) set ∙ get_or-replicate n (k - q) v d (omega arith)
-
--- before that all is as it was
-pub marked-before : {X : Type 0} (v : X) (xs : List X) (q n k : ℕ) (d : X) → q ≤ length xs → k < q → get_or (marked xs q n v) k d ≡ get_or xs k d
-marked-before v xs q n k d h low =
-    let here : k < length (take q xs) = let long : length (take q xs) ≡ q = length-take-le q xs h in omega arith in
-    get_or_append_left (take q xs) (replicate n v ++ drop (q + n) xs) d k here ∙ get_or-take q xs k d low
-
--- and after it
-pub marked-after : {X : Type 0} (v : X) (xs : List X) (q n k : ℕ) (d : X) → q + n ≤ length xs → q + n ≤ k → get_or (marked xs q n v) k d ≡ get_or xs k d
-marked-after v xs q n k d h high =
-    let rest = drop (q + n) xs in
-    let there : q + n + (k - q - n) ≡ k = omega arith in
-    get_or-append_right (take q xs) (replicate n v ++ rest) q k d (length-take-le q xs (omega arith)) (omega arith) ∙ get_or-append_right (replicate n v) rest n (k - q) d (length-replicate n v) (omega arith)
-    ∙ get_or-drop (q + n) xs (k - q - n) d ∙ ap (λ j. get_or xs j d) there

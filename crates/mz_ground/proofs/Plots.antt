@@ -9,7 +9,7 @@ use types.Logic.{Logic, sem}
 use types.Kit.{‵, ◌⊛◌, ◌$◌, ◌∵◌, !, qed, move, use1, use2, split, fsplit, fjoin, rewrite, done}
 use denote.Steps.{nothing}
 use denote.RawPtr.Bytes.{bytes, bytes_cut, bytes_glue}
-use Rattle.mz_ground.specs.Site.{Site}
+use Rattle.mz_base.specs.Site.{Site}
 use Rattle.mz_ground.specs.Ownership.{tickets, lies_in, plot_owns}
 use Rattle.mz_ground.proofs.Tickets.{tickets_cut, tickets_glue}
 

@@ -8,7 +8,7 @@ use contract.Monad.{fact, fact_i, fact_use}
 use types.Logic.{Logic, sem}
 use types.Kit.{‵, raw, given, ◌⊛◌, ◌$◌, ◌∵◌, !, qed, by, move, keep, drop, use0, use1, use2, split, fsplit, fjoin, rewrite, learn, check, done}
 use denote.Steps.{nothing, heard}
-use Rattle.mz_ground.specs.Site.{Site}
+use Rattle.mz_base.specs.Site.{Site}
 use Rattle.mz_ground.specs.Ownership.{tickets, plot_owns, kept_owns}
 use Rattle.mz_ground.specs.Marks.{AreAll, marked, written}
 use Rattle.mz_ground.proofs.Lists.{in_three, part_within, times_within}

@@ -2,7 +2,7 @@
 use Rattle.std.proofs.Common.{◌≡◌, ℕ, ◌+◌, ◌^◌, ◌<◌, ◌≤◌, ◌++◌, Option, Some, None, Vec, length, sym, ap, ◌∙◌, subst, arith, length-append}
 use Rattle.std.specs.Option.{option_or}
 use Rattle.std_alloc.specs.declared.vec.lodged.Lodged.{Lodged}
-use Rattle.mz_ground.specs.Site.{Site}
+use Rattle.mz_base.specs.Site.{Site}
 use Rattle.mz_ground.specs.declared.raw.Deed.{Deed}
 use Rattle.mz_ground.specs.declared.raw.Root.{Root}
 use Rattle.mz_ground.specs.Parts.{LaidAs}

@@ -2,7 +2,7 @@
 use Rattle.std.specs.Prelude.{◌≡◌, ℕ, ◌*◌, ◌<◌, List, [], ◌∷◌, Bool, true, false, Option, MatchOption, Vec, length}
 use denote.RawPtr.{Ptr}
 use Rattle.std_alloc.specs.declared.vec.lodged.Lodged.{Lodged}
-use Rattle.mz_ground.specs.Site.{Site}
+use Rattle.mz_base.specs.Site.{Site}
 use Rattle.mz_ground.specs.Place.{IsAt, IsInside}
 use Rattle.mz_ground.specs.Parts.{IsLaid}
 use Rattle.mz_ground.specs.declared.raw.Deed.{Deed}

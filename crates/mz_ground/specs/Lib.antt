@@ -1,4 +1,3 @@
-pub mod Site
 pub mod Place
 pub mod Marks
 pub mod Views

@@ -4,7 +4,7 @@ use base.Fraction.{full_share}
 use base.Fml.{GName, Fml, ftrue, fsep, fall, fwand, feq}
 use types.Keyed.{ticket}
 use denote.RawPtr.Bytes.{bytes}
-use Rattle.mz_ground.specs.Site.{Site}
+use Rattle.mz_base.specs.Site.{Site}
 
 -- the tickets of n bytes from the address a on
 abbrev pub tickets : GName → ℕ → ℕ → Fml

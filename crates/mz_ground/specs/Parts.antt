@@ -1,7 +1,7 @@
 -- What the functions that own memory say of the parts that they hand out. This project's own.
 use Rattle.std.specs.Prelude.{◌≡◌, ℕ, ◌<◌, List, Bool, Vec, length}
 use Rattle.std_alloc.specs.declared.vec.lodged.Lodged.{Lodged}
-use Rattle.mz_ground.specs.Site.{Site}
+use Rattle.mz_base.specs.Site.{Site}
 use Rattle.mz_ground.specs.Place.{IsAt}
 use Rattle.mz_ground.specs.declared.raw.Plot.{Plot}
 use Rattle.mz_ground.specs.declared.raw.Deed.{Deed}

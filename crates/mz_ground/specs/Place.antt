@@ -1,7 +1,7 @@
 -- Where the bytes of a space are. This project's own.
 use Rattle.std.specs.Prelude.{◌≡◌, ℕ, ◌+◌, ◌^◌, ◌<◌, ◌≤◌}
 use denote.RawPtr.{Ptr, block_ptr}
-use Rattle.mz_ground.specs.Site.{Site}
+use Rattle.mz_base.specs.Site.{Site}
 
 -- p is where the byte at the address a of the space s lies
 abbrev pub IsAt : Ptr → Site → ℕ → Type 0

@@ -1,7 +1,7 @@
 -- What a clause sees of a span and of a ground. This project's own.
 use Rattle.std.specs.Prelude.{◌≡◌, ℕ, ◌+◌, ◌≤◌, ◌⊎◌, List, Bool, ◌++◌, length, take, drop, refl}
 use Rattle.std.specs.Coded.{Coded, code_by, coded×, coded_list, coded_ℕ, coded_bool}
-use Rattle.mz_ground.specs.Site.{Site, site_code}
+use Rattle.mz_base.specs.Site.{Site, site_code}
 
 -- a span: its space, its first address there, and its bytes
 pub record SpanView : Type 0 where

@@ -12,7 +12,7 @@ use std::mem;
 /// its first address, for each quantum whether it is lent, and its bytes, where a quantum that is
 /// lent has those that it was lent with.
 ///
-/// A ground that has lent nothing is dropped as its span is. Any other is forgotten.
+/// A ground that has lent nothing is dropped as its span is, and any other is forgotten (measured: no contract can say it).
 pub struct Ground<const Q: usize> {
     // Where its first byte lies in memory, whether it is lent or not.
     base: Base,
@@ -83,7 +83,8 @@ impl<const Q: usize> Ground<Q> {
         Span::of_parts(bytes, self.first + (Q * from) as u64, deed, root)
     }
 
-    /// Takes the span of the `n` quanta from the `q`-th on back. Only this ground can have lent it.
+    /// Takes the span of the `n` quanta from the `q`-th on back. That these quanta were
+    /// lent isn't asked: it is proved.
     pub fn put_back(&mut self, q: u64, n: u64, s: Span)
         requires space { s.space ≡ self.old.space }
         requires first { s.first ≡ self.old.first + Q * q }
@@ -105,7 +106,8 @@ impl<const Q: usize> Ground<Q> {
         mark(&mut self.lent, from, count, false);
     }
 
-    /// Takes back a span that is whole quanta of this ground. Only this ground can have lent it.
+    /// Takes back a span that is whole quanta of this ground. That they were lent
+    /// isn't asked: it is proved.
     pub fn give_back(&mut self, s: Span)
         requires space { s.space ≡ self.old.space }
         requires above { self.old.first ≤ s.first }

@@ -7,7 +7,7 @@
 //!
 //! To the crates above, this one promises that a span's bytes are its own: what is written through
 //! one span is read through it, and no other span of its space has any of these bytes. Parting,
-//! joining, lending and giving back keep the bytes, and copy none. Nothing frees a space's memory
+//! joining, lending and giving back keep the bytes. Nothing frees a space's memory
 //! before the span of all its bytes is dropped. That it goes back then is measured: no contract can
 //! say it.
 #![tactic(auto)]

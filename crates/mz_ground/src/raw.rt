@@ -14,7 +14,7 @@
 ghost use Rattle.std.specs.Prelude.{◌≡◌, ℕ, ◌+◌, ◌<◌, ◌≤◌, ◌++◌, List, [], Bool, length, take, drop, vec_len};
 ghost use Rattle.std.specs.Vec.{vec_ptr, with_items};
 ghost use base.Fml.{ftrue, fex, fsep, feq};
-ghost use Rattle.mz_ground.specs.Site.{Site, site_code};
+ghost use Rattle.mz_base.specs.Site.{Site, site_code};
 ghost use Rattle.mz_ground.specs.Ownership.{tickets, with_all_bytes, plot_owns, kept_owns};
 
 use std::marker::{Model, Move, Owns};

@@ -2,10 +2,8 @@
 ghost use Rattle.std.specs.Prelude.{◌≡◌, ◌*◌, length, IfOk};
 
 use crate::Span;
+use mz_base::PAGE;
 use std::alloc::{AllocError, Global};
-
-/// The bytes of a page.
-const PAGE: u64 = 16_384;
 
 /// The bytes that all blocks of an allocator are made of.
 #[derive(Clone, Copy)]

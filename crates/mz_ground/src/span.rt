@@ -13,7 +13,8 @@ use std_alloc::vec::Lodged;
 /// Bytes of one space. Nothing else can reach them. Contracts see the span's space, which is the
 /// same for all spans of one `Space::new`, its first address there, and its bytes.
 ///
-/// A span of its whole space gives the memory back when it is dropped. Any other is forgotten.
+/// A span of its whole space gives the memory back when it is dropped, and any other is forgotten (measured: no contract
+/// can say it).
 pub struct Span {
     bytes: Vec<u8, Lodged>,
     first: u64,

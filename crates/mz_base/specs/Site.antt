@@ -2,7 +2,7 @@
 use Rattle.std.specs.Prelude.{ℕ, refl}
 use Rattle.std.specs.Coded.{Coded, code_by, coded×, coded_ℕ}
 
--- one space: the name of its tickets, where its first byte lies in memory, and how many bytes it has
+-- one space: the name of its tickets, in which block of memory and where there its first byte lies, and how many bytes it has
 pub record Site : Type 0 where
   pub name : ℕ
   pub block : ℕ

@@ -1,0 +1,3 @@
+mod FreeRunLemmas
+mod PageLemmas
+mod KeptLemmas

@@ -1,0 +1,4 @@
+pub mod Views
+pub mod Quanta
+pub mod Search
+pub mod Held

@@ -1,27 +1,41 @@
 -- What stands at a spot after values were written.
 use Rattle.std.proofs.Common.{◌≡◌, Bool, true, false, cond, List, [], ◌∷◌, refl, ap, sym, subst, ◌∙◌, inl, inr}
-use Rattle.std.specs.Prelude.{◌&&◌, ◌==◌}
+use Rattle.std.specs.Prelude.{◌==◌}
 use Rattle.std.specs.List.{list_any}
 use Rattle.std.proofs.lemmas.Bool.{and_parts, eqb-true, eq-eqb, false≢true, cases_Bool}
-use Rattle.mz_history.specs.Places.{Spot, same_spot}
+use Rattle.mz_history.specs.declared.place.Place.{Place}
+use Rattle.mz_history.specs.declared.place.Place.TheVariants.{Pages, Tiny, TinyDepot, Small, SmallDepot, Large, Nano}
+use Rattle.mz_history.specs.Places.{same_place, Spot, keeper_at, nano_page, same_spot}
 use Rattle.mz_history.specs.State.{Value, look_up, write}
 use Rattle.mz_history.specs.Effect.{write_all}
 
--- spots that are tested equal are one
+pub same_place-true : (j k : Place) → same_place j k ≡ true → j ≡ k
+same_place-true Pages Pages h = refl
+same_place-true (Tiny z m) (Tiny y n) h = let parts = and_parts (z == y) (m == n) h in let a = eqb-true z y parts.0 in let b = eqb-true m n parts.1 in cc
+same_place-true (TinyDepot z) (TinyDepot y) h = ap (λ x. TinyDepot x) (eqb-true z y h)
+same_place-true (Small z m) (Small y n) h = let parts = and_parts (z == y) (m == n) h in let a = eqb-true z y parts.0 in let b = eqb-true m n parts.1 in cc
+same_place-true (SmallDepot z) (SmallDepot y) h = ap (λ x. SmallDepot x) (eqb-true z y h)
+same_place-true (Large z) (Large y) h = ap (λ x. Large x) (eqb-true z y h)
+same_place-true Nano Nano h = refl
+same_place-true _ _ h = absurd (false≢true h)
+
+pub same_place-refl : (j : Place) → same_place j j ≡ true
+same_place-refl Pages = refl
+same_place-refl (Tiny z m) = rw (eq-eqb z z refl, eq-eqb m m refl) refl
+same_place-refl (TinyDepot z) = eq-eqb z z refl
+same_place-refl (Small z m) = rw (eq-eqb z z refl, eq-eqb m m refl) refl
+same_place-refl (SmallDepot z) = eq-eqb z z refl
+same_place-refl (Large z) = eq-eqb z z refl
+same_place-refl Nano = refl
+
 pub same_spot-true : (j k : Spot) → same_spot j k ≡ true → j ≡ k
-same_spot-true j k h =
-    let outer = and_parts ((j.kind == k.kind) && (j.zone == k.zone)) (j.index == k.index) h in
-    let inner = and_parts (j.kind == k.kind) (j.zone == k.zone) outer.0 in
-    let kinds = eqb-true j.kind k.kind inner.0 in
-    let zones = eqb-true j.zone k.zone inner.1 in
-    let indexes = eqb-true j.index k.index outer.1 in
-    let first : j ≡ record { kind = k.kind; zone = j.zone; index = j.index } = ap (λ n. record { kind = n; zone = j.zone; index = j.index }) kinds in
-    let second : record { kind = k.kind; zone = j.zone; index = j.index } ≡ record { kind = k.kind; zone = k.zone; index = j.index } = ap (λ n. record { kind = k.kind; zone = n; index = j.index }) zones in
-    let third : record { kind = k.kind; zone = k.zone; index = j.index } ≡ k = ap (λ n. record { kind = k.kind; zone = k.zone; index = n }) indexes in
-    first ∙ second ∙ third
+same_spot-true (keeper_at j) (keeper_at k) h = ap (λ x. keeper_at x) (same_place-true j k h)
+same_spot-true (nano_page i) (nano_page j) h = ap (λ x. nano_page x) (eqb-true i j h)
+same_spot-true _ _ h = absurd (false≢true h)
 
 pub same_spot-refl : (j : Spot) → same_spot j j ≡ true
-same_spot-refl j = rw (eq-eqb j.kind j.kind refl, eq-eqb j.zone j.zone refl, eq-eqb j.index j.index refl) refl
+same_spot-refl (keeper_at j) = same_place-refl j
+same_spot-refl (nano_page i) = eq-eqb i i refl
 
 cond_again : {A : Type 0} (b : Bool) (x y z : A) → cond b x z ≡ cond b x (cond b y z)
 cond_again true x y z = refl

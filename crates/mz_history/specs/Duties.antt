@@ -1,17 +1,16 @@
 -- A duty is one event that stands at named spots until it comes. That sparse regions go to a depot, and freed large
 -- runs into a cache, is after libmalloc; that they have to, and when, is this project's own.
-use Rattle.std.specs.Prelude.{ℕ, ◌-◌, ◌*◌, ◌/◌, ◌==◌, Bool, true, false, nat_lt, ◌&&◌, List, [], ◌∷◌, filter, find, length, sum_by, Option, Some, None, if◌then◌else◌}
+use Rattle.std.specs.Prelude.{◌-◌, ◌*◌, ◌/◌, ◌==◌, Bool, true, false, nat_lt, ◌&&◌, List, [], ◌∷◌, find, length, sum_by, Option, Some, None, if◌then◌else◌}
 use Rattle.std.specs.List.{list_any}
 use Rattle.std.specs.Option.{option_map}
-use Rattle.mz_base.specs.declared.range.TheConstants.{PAGE}
-use Rattle.mz_base.specs.Space.{Block, Run, block_end}
+use Rattle.mz_base.specs.Space.{Block, Run}
+use Rattle.mz_base.specs.Lists.{blocks_in, size_sum, run_bytes}
 use Rattle.mz_history.specs.declared.place.Place.{Place}
 use Rattle.mz_history.specs.declared.place.Place.TheVariants.{Large}
 use Rattle.mz_history.specs.declared.event.Event.{Event}
-use Rattle.mz_history.specs.declared.event.Event.TheVariants.{Move, Back, End, Dry}
+use Rattle.mz_history.specs.declared.event.Event.TheVariants.{Take, Back, Move, New, End, Size, Full, Dry, No, Open, Shut}
 use Rattle.mz_history.specs.Places.{is_magazine, is_depot, is_large, depot_of, same_place, spot_of, Spot, same_spot}
 use Rattle.mz_history.specs.State.{Kept, State, kept_at}
-use Rattle.mz_history.specs.Room.{lies_in}
 
 -- the event is this duty; only a move or a back can be one
 abbrev pub is_that : Event → Event → Bool
@@ -28,18 +27,6 @@ allows (Some d) e = is_that d e
 abbrev pub is_owed : Option Event → Event → Bool
 is_owed None e = false
 is_owed (Some d) e = is_that d e
-
--- the blocks that lie in the run
-abbrev pub blocks_in : List Block → Run → List Block
-blocks_in live r = filter (λ b. lies_in r b.first (block_end b)) live
-
--- the bytes of these blocks
-abbrev pub size_sum : List Block → ℕ
-size_sum live = sum_by (λ b. b.size) live
-
--- the bytes of a run
-abbrev pub run_bytes : Run → ℕ
-run_bytes r = r.pages * PAGE
 
 -- A magazine is in excess where its regions have more idle bytes than one and a half of them, and more
 -- than a quarter of their bytes. (After libmalloc's recirculation; the formula is this project's.)
@@ -88,4 +75,11 @@ duty_after before (Move f from to) j kept =
     if is_depot to && same_spot j (spot_of to) then empty_depot_region to kept
     else (if is_depot from && same_spot j (spot_of from) then empty_depot_region from kept else None)
 duty_after before (Dry z w al) j kept = back_of_oldest (Large z) (kept_at before (spot_of (Large z))).cached
-duty_after before _ j kept = None
+duty_after before (Take k f w) j kept = None
+duty_after before (Back k f w) j kept = None
+duty_after before (New k a n al) j kept = None
+duty_after before (Size k a n m) j kept = None
+duty_after before (Full k n al) j kept = None
+duty_after before (No k z a n) j kept = None
+duty_after before (Open z) j kept = None
+duty_after before (Shut z) j kept = None

@@ -1,16 +1,16 @@
--- What each event touches, and what it leaves there. That a freed block is kept aside as the last one, and a freed
--- large run in a cache, is after libmalloc; all else is this project's own.
-use Rattle.std.specs.Prelude.{ℕ, ◌+◌, ◌-◌, ◌==◌, Bool, true, false, not, List, [], ◌∷◌, ◌++◌, map, filter, fold, max, Option, Some, None, if◌then◌else◌}
+-- What each event touches, and what it leaves there. This project's own.
+use Rattle.std.specs.Prelude.{ℕ, ◌+◌, ◌==◌, Bool, not, List, [], ◌∷◌, map, filter, max, Some, if◌then◌else◌}
 use Rattle.std.specs.List.{list_any}
 use Rattle.mz_base.specs.declared.profile.Profile.{Profile}
-use Rattle.mz_base.specs.Space.{Block, Run, block_at, run_at, blocks_apart, bytes_of, same_block, same_run, page_of}
-use Rattle.mz_history.specs.declared.place.Place.{Place}
-use Rattle.mz_history.specs.declared.place.Place.TheVariants.{Pages, Tiny, TinyDepot, Small, SmallDepot, Large}
+use Rattle.mz_base.specs.Space.{block_at, run_at}
+use Rattle.mz_base.specs.Lists.{blocks_in}
+use Rattle.mz_history.specs.declared.place.Place.TheVariants.{Pages, Large}
 use Rattle.mz_history.specs.declared.event.Event.{Event}
 use Rattle.mz_history.specs.declared.event.Event.TheVariants.{Take, Back, Move, New, End, Size, Full, Dry, No, Open, Shut}
-use Rattle.mz_history.specs.Places.{is_magazine, is_large, places_of, Spot, same_spot, spot_at, spot_of}
-use Rattle.mz_history.specs.State.{Kept, Value, State, write, kept_at, live_size, insert_by}
-use Rattle.mz_history.specs.Duties.{blocks_in, duty_after}
+use Rattle.mz_history.specs.Places.{places_of, Spot, same_spot, spot_at, spot_of}
+use Rattle.mz_history.specs.State.{Kept, Value, State, write, kept_at, live_size}
+use Rattle.mz_history.specs.Changes.{with_block, without_block, resized, with_run, without_run, with_region, pages_without, pages_with, region_at}
+use Rattle.mz_history.specs.Duties.{duty_after}
 
 -- the spots that an event touches
 abbrev pub touched : Profile → Event → List Spot
@@ -30,113 +30,21 @@ touched p (Shut z) = map spot_of (places_of p z)
 abbrev pub touches : Profile → Event → Spot → Bool
 touches p e j = list_any (same_spot j) (touched p e)
 
--- the runs with this one among them, by first page
-abbrev pub add_run : Run → List Run → List Run
-add_run r rs = insert_by (λ t. t.first) r rs
-
--- the runs without this one
-abbrev pub drop_run : Run → List Run → List Run
-drop_run r rs = filter (λ t. not (same_run r t)) rs
-
--- the blocks with this one among them, by address
-abbrev pub add_block : Block → List Block → List Block
-add_block b bs = insert_by (λ c. c.first) b bs
-
--- the blocks without this one
-abbrev pub drop_block : Block → List Block → List Block
-drop_block b bs = filter (λ c. not (same_block b c)) bs
-
--- the last freed block, where it is apart from this block
-abbrev pub still_freed : Block → Option Block → Option Block
-still_freed b None = None
-still_freed b (Some f) = if blocks_apart f b then Some f else None
-
--- a place whose runs are tiny regions
-abbrev pub is_tiny : Place → Bool
-is_tiny (Tiny z m) = true
-is_tiny (TinyDepot z) = true
-is_tiny _ = false
-
--- a place whose runs are small regions
-abbrev pub is_small : Place → Bool
-is_small (Small z m) = true
-is_small (SmallDepot z) = true
-is_small _ = false
-
--- 1 where the test holds: the regions of each range are counted as they are taken and come back
-abbrev pub one_for : Bool → ℕ
-one_for b = if b then 1 else 0
-
--- the free pages without the run, which goes to k
-abbrev pub without_run : Place → Run → Kept → Kept
-without_run k r p = record p {
-  taken = add_run r p.taken;
-  tiny_regions = p.tiny_regions + one_for (is_tiny k);
-  small_regions = p.small_regions + one_for (is_small k);
-}
-
--- the free pages with the run again, which comes from k
-abbrev pub with_run : Place → Run → Kept → Kept
-with_run k r p = record p {
-  taken = drop_run r p.taken;
-  tiny_regions = p.tiny_regions - one_for (is_tiny k);
-  small_regions = p.small_regions - one_for (is_small k);
-}
-
--- the place without the run, with all that lies in it
-abbrev pub leaves : Run → Kept → Kept
-leaves r k = record k {
-  runs = drop_run r k.runs;
-  live = filter (λ b. blocks_apart b (bytes_of r)) k.live;
-  last_freed = still_freed (bytes_of r) k.last_freed;
-  cached = drop_run r k.cached;
-}
-
--- the place with the run and the live blocks in it
-abbrev pub enters : Run → List Block → Kept → Kept
-enters r live k = record k { runs = add_run r k.runs; live = fold (λ bs b. add_block b bs) k.live live }
-
--- the region of a place that begins at this page
-abbrev pub region_at : List Run → ℕ → Run
-region_at [] f = run_at f 0
-region_at (r ∷ rs) f = if r.first == f then r else region_at rs f
-
--- the run of a large block
-abbrev pub run_of : Block → Run
-run_of b = run_at (page_of b.first) (page_of b.size)
-
 -- what a touched spot keeps after an event
 abbrev pub kept_after : State → Event → Spot → Kept
-kept_after s (Take k f w) j =
-    let r = run_at f w in
-    if same_spot j (spot_of Pages) then without_run k r (kept_at s j) else record (kept_at s j) { runs = add_run r (kept_at s j).runs }
-kept_after s (Back k f w) j =
-    let r = run_at f w in
-    if same_spot j (spot_of Pages) then with_run k r (kept_at s j) else leaves r (kept_at s j)
+kept_after s (Take k f w) j = if same_spot j (spot_of Pages) then pages_without k (run_at f w) (kept_at s j) else with_run (run_at f w) (kept_at s j)
+kept_after s (Back k f w) j = if same_spot j (spot_of Pages) then pages_with k (run_at f w) (kept_at s j) else without_run (run_at f w) (kept_at s j)
 kept_after s (Move f from to) j =
     let r = region_at (kept_at s (spot_of from)).runs f in
-    if same_spot j (spot_of from) then leaves r (kept_at s j) else enters r (blocks_in (kept_at s (spot_of from)).live r) (kept_at s j)
-kept_after s (New k a n al) j =
-    let b = block_at a n in
-    record (kept_at s j) {
-      live = add_block b (kept_at s j).live;
-      last_freed = still_freed b (kept_at s j).last_freed;
-      cached = filter (λ r. not (same_block b (bytes_of r))) (kept_at s j).cached;
-    }
-kept_after s (End k a n) j =
-    let b = block_at a n in
-    record (kept_at s j) {
-      live = drop_block b (kept_at s j).live;
-      last_freed = if is_magazine k then Some b else None;
-      cached = if is_large k then (kept_at s j).cached ++ run_of b ∷ [] else (kept_at s j).cached;
-    }
-kept_after s (Size k a n m) j =
-    let b = block_at a m in
-    record (kept_at s j) {
-      live = add_block b (drop_block (block_at a n) (kept_at s j).live);
-      last_freed = still_freed b (kept_at s j).last_freed;
-    }
-kept_after s _ j = kept_at s j
+    if same_spot j (spot_of from) then without_run r (kept_at s j) else with_region r (blocks_in (kept_at s (spot_of from)).live r) (kept_at s j)
+kept_after s (New k a n al) j = with_block (block_at a n) (kept_at s j)
+kept_after s (End k a n) j = without_block k (block_at a n) (kept_at s j)
+kept_after s (Size k a n m) j = resized (block_at a n) (block_at a m) (kept_at s j)
+kept_after s (Full k n al) j = kept_at s j
+kept_after s (Dry z w al) j = kept_at s j
+kept_after s (No k z a n) j = kept_at s j
+kept_after s (Open z) j = kept_at s j
+kept_after s (Shut z) j = kept_at s j
 
 -- the value of a touched spot after an event by a caller
 abbrev pub value_after : State → ℕ → Event → Spot → Value

@@ -3,7 +3,8 @@ use Rattle.std.specs.Prelude.{ℕ, ◌==◌, ◌≡◌, Bool, ◌&&◌, not, Lis
 use Rattle.std.specs.List.{list_any, list_all}
 use Rattle.mz_base.specs.declared.profile.Profile.{Profile}
 use Rattle.mz_history.specs.declared.entry.Entry.{Entry}
-use Rattle.mz_history.specs.State.{State, opening, insert_by}
+use Rattle.mz_history.specs.State.{State, opening}
+use Rattle.mz_base.specs.Lists.{insert_by}
 use Rattle.mz_history.specs.Rules.{Rule, in_turn, duty_first, Fits, first_broken}
 use Rattle.mz_history.specs.Effect.{after}
 

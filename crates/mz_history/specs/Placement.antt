@@ -9,9 +9,11 @@ use Rattle.mz_history.specs.declared.place.Place.{Place}
 use Rattle.mz_history.specs.declared.event.Event.{Event}
 use Rattle.mz_history.specs.declared.event.Event.TheVariants.{New, Size}
 use Rattle.mz_history.specs.Places.{is_magazine, is_large, is_nano, quantum_of, is_size_of, nano_start, spot_at, spot_of}
-use Rattle.mz_history.specs.State.{Kept, State, kept_at, has_run, has_block}
-use Rattle.mz_history.specs.Room.{lies_in, is_at_front, wide, narrow, any_fits, best_fit}
-use Rattle.mz_history.specs.Effect.{run_of}
+use Rattle.mz_history.specs.State.{Kept, State, kept_at}
+use Rattle.mz_base.specs.Lists.{has_run, has_block}
+use Rattle.mz_base.specs.Room.{lies_in, is_at_front}
+use Rattle.mz_history.specs.Room.{wide, narrow, any_fits, best_fit}
+use Rattle.mz_history.specs.Changes.{run_of}
 
 -- the block's bytes are nano's
 abbrev pub lies_in_nano : Profile → Block → Bool

@@ -36,6 +36,18 @@ abbrev pub is_nano : Place → Bool
 is_nano Nano = true
 is_nano _ = false
 
+-- a place whose runs are tiny regions
+abbrev pub is_tiny : Place → Bool
+is_tiny (Tiny z m) = true
+is_tiny (TinyDepot z) = true
+is_tiny _ = false
+
+-- a place whose runs are small regions
+abbrev pub is_small : Place → Bool
+is_small (Small z m) = true
+is_small (SmallDepot z) = true
+is_small _ = false
+
 -- the zone of a place; nano is of zone 0
 abbrev pub zone_of : Place → ℕ
 zone_of Pages = 0
@@ -100,35 +112,46 @@ exists_in p Nano = nat_lt 0 p.nano
 abbrev pub places_of : Profile → ℕ → List Place
 places_of p z = map (λ m. Tiny z m) (range_with_len 0 p.magazines) ++ TinyDepot z ∷ map (λ m. Small z m) (range_with_len 0 p.magazines) ++ SmallDepot z ∷ Large z ∷ []
 
--- A spot is where a state keeps a value of its own: a place, or one page of nano. Kinds are 0 free pages, 1 tiny
--- magazine, 2 tiny depot, 3 small magazine, 4 small depot, 5 large and 6 nano; the index is the magazine's number
--- or the page's.
-pub record Spot : Type 0 where
-  pub kind : ℕ
-  pub zone : ℕ
-  pub index : ℕ
+-- two places are one
+abbrev pub same_place : Place → Place → Bool
+same_place Pages Pages = true
+same_place (Tiny z m) (Tiny y n) = (z == y) && (m == n)
+same_place (TinyDepot z) (TinyDepot y) = z == y
+same_place (Small z m) (Small y n) = (z == y) && (m == n)
+same_place (SmallDepot z) (SmallDepot y) = z == y
+same_place (Large z) (Large y) = z == y
+same_place Nano Nano = true
+same_place _ _ = false
+
+-- A spot is where a state keeps a value of its own: a place that has a keeper (any but nano), or one page of nano.
+pub data Spot : Type 0 where
+  keeper_at : Place → Spot
+  nano_page : ℕ → Spot
 
 -- two spots are one
 abbrev pub same_spot : Spot → Spot → Bool
-same_spot j k = (j.kind == k.kind) && (j.zone == k.zone) && (j.index == k.index)
+same_spot (keeper_at j) (keeper_at k) = same_place j k
+same_spot (nano_page i) (nano_page j) = i == j
+same_spot _ _ = false
 
 -- the spot of a place; of nano, that of the page in which the address lies
 abbrev pub spot_at : Place → ℕ → Spot
-spot_at Pages a = record { kind = 0; zone = 0; index = 0 }
-spot_at (Tiny z m) a = record { kind = 1; zone = z; index = m }
-spot_at (TinyDepot z) a = record { kind = 2; zone = z; index = 0 }
-spot_at (Small z m) a = record { kind = 3; zone = z; index = m }
-spot_at (SmallDepot z) a = record { kind = 4; zone = z; index = 0 }
-spot_at (Large z) a = record { kind = 5; zone = z; index = 0 }
-spot_at Nano a = record { kind = 6; zone = 0; index = page_of a }
+spot_at Pages a = keeper_at Pages
+spot_at (Tiny z m) a = keeper_at (Tiny z m)
+spot_at (TinyDepot z) a = keeper_at (TinyDepot z)
+spot_at (Small z m) a = keeper_at (Small z m)
+spot_at (SmallDepot z) a = keeper_at (SmallDepot z)
+spot_at (Large z) a = keeper_at (Large z)
+spot_at Nano a = nano_page (page_of a)
 
 -- the spot of a place that isn't nano
 abbrev pub spot_of : Place → Spot
 spot_of k = spot_at k 0
 
--- two places are one
-abbrev pub same_place : Place → Place → Bool
-same_place j k = same_spot (spot_of j) (spot_of k)
+-- the place of a spot
+abbrev pub place_of : Spot → Place
+place_of (keeper_at k) = k
+place_of (nano_page i) = Nano
 
 -- j and k are a magazine and its depot, in either order
 abbrev pub are_pair : Place → Place → Bool

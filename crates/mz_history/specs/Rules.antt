@@ -11,8 +11,10 @@ use Rattle.mz_history.specs.declared.event.Event.{Event}
 use Rattle.mz_history.specs.declared.event.Event.TheVariants.{Take, Back, Move, New, End, Size, Full, Dry, No, Open, Shut}
 use Rattle.mz_history.specs.Places.{is_magazine, is_depot, is_large, is_nano, is_pages, zone_of, depot_of, is_length_of, exists_in, places_of, are_pair, spot_at, spot_of}
 pub use Rattle.mz_history.specs.Places.{nano_start}
-use Rattle.mz_history.specs.State.{Kept, Deed, State, value_at, kept_at, is_open, has_run, has_block}
-use Rattle.mz_history.specs.Room.{any_has_room, has_room, wide, has_free, is_lowest_free, any_fits}
+use Rattle.mz_history.specs.State.{Kept, Deed, State, value_at, kept_at, is_open}
+use Rattle.mz_base.specs.Lists.{has_run, has_block}
+use Rattle.mz_base.specs.Room.{any_has_room, has_room, has_free, is_lowest_free}
+use Rattle.mz_history.specs.Room.{wide, any_fits}
 use Rattle.mz_history.specs.Duties.{allows, is_owed}
 use Rattle.mz_history.specs.Effect.{touched}
 use Rattle.mz_history.specs.Placement.{fits_apart_there, is_placed}

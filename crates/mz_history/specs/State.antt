@@ -1,13 +1,14 @@
 -- What a history leaves: one value for each spot, and beside these the open zones, the number of
 -- entries and the greatest sum of live sizes so far. This project's own.
 use Rattle.std.specs.Prelude.{ℕ, ◌*◌, ◌==◌, Bool, nat_lt, List, [], ◌∷◌, ◌++◌, map, sum_by, Option, None, if◌then◌else◌}
-use Rattle.std.specs.List.{list_any, flat_map}
+use Rattle.std.specs.List.{list_any, flat_map, range_with_len}
 use Rattle.mz_base.specs.declared.range.TheConstants.{PAGE}
 use Rattle.mz_base.specs.declared.profile.Profile.{Profile}
-use Rattle.mz_base.specs.Space.{Block, Run, run_at, same_block, same_run}
-use Rattle.mz_history.specs.declared.place.Place.TheVariants.{Nano}
+use Rattle.mz_base.specs.Space.{Block, Run, run_at}
+use Rattle.mz_history.specs.declared.place.Place.{Place}
+use Rattle.mz_history.specs.declared.place.Place.TheVariants.{Pages, Tiny, TinyDepot, Small, SmallDepot, Large, Nano}
 use Rattle.mz_history.specs.declared.event.Event.{Event}
-use Rattle.mz_history.specs.Places.{Spot, same_spot, spot_at, nano_start}
+use Rattle.mz_history.specs.Places.{Spot, same_spot, spot_of, spot_at, nano_page, nano_start}
 
 -- What a keeper can stand for. The free pages have only the last three fields, and nano's pages only
 -- live blocks; lists of runs and blocks are ascending, but that cached runs stand in order of freeing.
@@ -74,13 +75,6 @@ kept_at s k = (value_at s k).kept
 abbrev pub is_open : State → ℕ → Bool
 is_open s z = list_any (λ y. y == z) s.open_zones
 
--- the run, or the block, is one of these
-abbrev pub has_run : List Run → Run → Bool
-has_run rs r = list_any (same_run r) rs
-
-abbrev pub has_block : List Block → Block → Bool
-has_block bs b = list_any (same_block b) bs
-
 -- all live blocks, each with its spot
 abbrev pub live_blocks : State → List (Spot × Block)
 live_blocks s = flat_map (λ pair. map (λ b. (pair.0, b)) pair.1.kept.live) s.values
@@ -101,7 +95,15 @@ all_runs p s = placed_runs s ++ nano_runs p
 abbrev pub live_size : List (Spot × Value) → ℕ
 live_size pairs = sum_by (λ pair. sum_by (λ b. b.size) pair.1.kept.live) pairs
 
--- the list with x before the first element of a greater key
-unfoldable pub insert_by : {A : Type 0} → (A → ℕ) → A → List A → List A
-insert_by key x [] = x ∷ []
-insert_by key x (y ∷ ys) = if nat_lt (key x) (key y) then x ∷ y ∷ ys else y ∷ insert_by key x ys
+-- What a place keeps: what its spot keeps, and for nano its one run with the live blocks of all its pages.
+abbrev pub kept_of : Profile → State → Place → Kept
+kept_of p s Pages = kept_at s (spot_of Pages)
+kept_of p s (Tiny z m) = kept_at s (spot_of (Tiny z m))
+kept_of p s (TinyDepot z) = kept_at s (spot_of (TinyDepot z))
+kept_of p s (Small z m) = kept_at s (spot_of (Small z m))
+kept_of p s (SmallDepot z) = kept_at s (spot_of (SmallDepot z))
+kept_of p s (Large z) = kept_at s (spot_of (Large z))
+kept_of p s Nano = record nothing_kept {
+  runs = map (λ pair. pair.1) (nano_runs p);
+  live = flat_map (λ i. (kept_at s (nano_page i)).live) (range_with_len (nano_start p) p.nano);
+}

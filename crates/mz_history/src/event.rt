@@ -16,7 +16,7 @@ pub enum Event {
     End { k: Place, a: u64, s: u64 },
     /// A live block of `s` bytes has `s2` from now on.
     Size { k: Place, a: u64, s: u64, s2: u64 },
-    /// `k` has no room for `n` bytes at the alignment `al`.
+    /// `k` has no room for `n` bytes at the alignment `al`; in large, no cached run fits `n` pages.
     Full { k: Place, n: u64, al: u64 },
     /// There is no free run of so many pages at a multiple of `al` pages.
     Dry { zone: u32, pages: u64, al: u64 },

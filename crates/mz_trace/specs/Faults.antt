@@ -1,18 +1,22 @@
 -- What can be wrong with a line, and the first bad line of a text. This project's own.
-use Rattle.std.specs.Prelude.{ℕ, ◌≡◌, ◌+◌, ◌==◌, Bool, true, false, not, nat_lt, nat_le, ◌&&◌, ◌||◌, List, [], ◌∷◌, length, find, Option, None, Some, is_none, count_by, codes, if◌then◌else◌}
-use Rattle.std.specs.List.{list_any, list_all, zip, slice_split, filter_map}
+use Rattle.std.specs.Prelude.{ℕ, ◌≡◌, ◌+◌, ◌==◌, Bool, true, false, not, nat_le, ◌&&◌, ◌||◌, List, [], ◌∷◌, length, find, Option, None, Some, is_none, count_by, codes, if◌then◌else◌}
+use Rattle.std.specs.List.{list_any, filter_map}
 use Rattle.std.specs.Option.{option_map_or}
 use Rattle.std.specs.Str.{bytes_eq}
-use Rattle.mz_base.specs.Names.{is_base_name, is_null}
-use Rattle.mz_trace.specs.declared.form.Operand.{Operand}
-use Rattle.mz_trace.specs.declared.form.Operand.TheVariants.{Caller, Base, Name, Old, New, Given, Zone, Number, Byte, ShowCount, BatchCount}
+use Rattle.mz_base.specs.Names.{is_digit}
+use Rattle.mz_words.specs.declared.flaw.Flaw.{Flaw}
+use Rattle.mz_words.specs.declared.flaw.Flaw.TheVariants as flaw
+use Rattle.mz_words.specs.declared.kind.Kind.TheVariants.{Caller}
+use Rattle.mz_words.specs.declared.table.Form.{Form}
+use Rattle.mz_words.specs.declared.table.TheConstants.{COMMANDS, ROUND_LINES}
+use Rattle.mz_words.specs.Lines.{Cut, cuts, words_of, is_plain}
+use Rattle.mz_words.specs.Table.{kinds_of, form_among}
+use Rattle.mz_words.specs.Flaws.{is_wrong, some_wrong}
+use Rattle.mz_trace.specs.declared.round.TheConstants.{MOST_ROUNDS}
 use Rattle.mz_trace.specs.declared.fault.Why.{Why}
 use Rattle.mz_trace.specs.declared.fault.Why.TheVariants.{NotPlain, NotTrace, NotSpace, EmptyWord, UnknownCommand, WrongCount, NotNumber, NoSuchCaller, NotName, BeyondLimits, OutOfPlace, GivenBefore}
 use Rattle.mz_trace.specs.declared.fault.TraceFault.{TraceFault}
 use Rattle.mz_trace.specs.declared.fault.TraceFault.TheVariants.{Bad, NoMemory}
-use Rattle.mz_trace.specs.Numbers.{is_number, is_number_from, is_from, value_of}
-use Rattle.mz_trace.specs.Names.{is_name, is_given_name}
-use Rattle.mz_trace.specs.Forms.{operands_of, form_of, fields_of, is_callers}
 use Rattle.mz_trace.specs.Spaces.{profile_in}
 
 -- the number of a why
@@ -30,82 +34,69 @@ why_number BeyondLimits = 10
 why_number OutOfPlace = 11
 why_number GivenBefore = 12
 
--- Bytes are cut into lines behind each line feed. A line is the bytes before its line feed; the last may have none.
-pub record Cut : Type 0 where
-  pub text : List ℕ
-  pub ended : Bool
-
-abbrev pub longer : ℕ → List Cut → List Cut
-longer b [] = record { text = b ∷ []; ended = false } ∷ []
-longer b (l ∷ ls) = record { text = b ∷ l.text; ended = l.ended } ∷ ls
-
-abbrev pub cuts : List ℕ → List Cut
-cuts [] = []
-cuts (b ∷ bs) = if b == 10 then record { text = []; ended = true } ∷ cuts bs else longer b (cuts bs)
-
--- the words of a line are cut at each space
-abbrev pub words_of : List ℕ → List (List ℕ)
-words_of text = slice_split (λ b. b == 32) text
-
 -- Where a line stands: it is the first, the second, or a later one of a trace with so many callers, behind later lines
 -- with these words, the nearest first.
-pub data Spot : Type 0 where
-  first : Spot
-  second : Spot
-  later : ℕ → List (List (List ℕ)) → Spot
+pub data Position : Type 0 where
+  first : Position
+  second : Position
+  later : ℕ → List (List (List ℕ)) → Position
 
--- a line that can be read at all
-abbrev pub is_plain : Cut → Bool
-is_plain l = l.ended && nat_le (length l.text) 255 && list_all (is_from 32 126) l.text
+-- a line whose first word begins with a digit is a caller's
+abbrev pub begins_with_digit : List ℕ → Bool
+begins_with_digit [] = false
+begins_with_digit (c ∷ cs) = is_digit c
 
--- some word isn't what its place in the form asks for
-abbrev pub some_word : (Operand → List ℕ → Bool) → List (List ℕ) → Bool
-some_word wrong words =
-    option_map_or (λ f. list_any (λ p. wrong p.0 p.1) (zip (operands_of f) (fields_of words))) (form_of words) false
+abbrev pub is_callers : List (List ℕ) → Bool
+is_callers [] = false
+is_callers (word ∷ words) = begins_with_digit word
+
+-- the form of a line by its words, which in a caller's line stand behind the caller's number
+abbrev pub form_among_words : List Form → List (List ℕ) → Option Form
+form_among_words forms [] = None
+form_among_words forms (word ∷ words) = form_among forms word
+
+abbrev pub form_of : List (List ℕ) → Option Form
+form_of [] = None
+form_of (word ∷ words) = if begins_with_digit word then form_among_words COMMANDS words else form_among ROUND_LINES word
+
+-- the words behind the form's
+abbrev pub behind_first : List (List ℕ) → List (List ℕ)
+behind_first [] = []
+behind_first (word ∷ words) = words
+
+abbrev pub fields_of : List (List ℕ) → List (List ℕ)
+fields_of [] = []
+fields_of (word ∷ words) = if begins_with_digit word then behind_first words else words
 
 -- there are as many words as the form asks for
-abbrev pub has_count : List (List ℕ) → Bool
-has_count words = option_map_or (λ f. length (operands_of f) == length (fields_of words)) (form_of words) true
+abbrev pub has_count : List (List ℕ) → Form → Bool
+has_count words f = length (kinds_of f) == length (fields_of words)
 
--- the places of numbers
-abbrev pub is_numeric : Operand → Bool
-is_numeric Caller = true
-is_numeric Number = true
-is_numeric Byte = true
-is_numeric ShowCount = true
-is_numeric BatchCount = true
-is_numeric _ = false
+-- the caller's number, or a word behind the form's, has this flaw
+abbrev pub caller_wrong : ℕ → Flaw → List (List ℕ) → Bool
+caller_wrong callers y [] = false
+caller_wrong callers y (word ∷ words) = begins_with_digit word && is_wrong callers [] y Caller word
 
--- no number in the place of one
-abbrev pub is_no_number : Operand → List ℕ → Bool
-is_no_number place word = is_numeric place && not (is_number word)
+abbrev pub field_wrong : ℕ → Flaw → List (List ℕ) → Form → Bool
+field_wrong callers y words f = caller_wrong callers y words || some_wrong callers y [] (kinds_of f) (fields_of words)
 
--- no number of a caller
-abbrev pub is_no_caller : ℕ → Operand → List ℕ → Bool
-is_no_caller callers Caller word = not (is_number word && nat_lt (value_of word) callers)
-is_no_caller callers _ word = false
+abbrev pub has_flaw : ℕ → Flaw → List (List ℕ) → Bool
+has_flaw callers y words = option_map_or (field_wrong callers y words) (form_of words) false
 
--- the old name in a `realloc`
-abbrev pub second_field : List (List ℕ) → List ℕ
-second_field (caller ∷ old ∷ words) = old
-second_field _ = []
-
--- no name of the form that the place asks for
-abbrev pub is_no_name : List (List ℕ) → Operand → List ℕ → Bool
-is_no_name fields Base word = not (is_base_name word)
-is_no_name fields Name word = not (is_name word)
-is_no_name fields Old word = not (is_null word || is_name word)
-is_no_name fields New word = not (is_base_name word || is_name word && bytes_eq word (second_field fields))
-is_no_name fields Given word = not (is_given_name word)
-is_no_name fields Zone word = not (is_base_name word)
-is_no_name fields _ word = false
-
--- no number within the limits of the place
-abbrev pub is_beyond_limits : Operand → List ℕ → Bool
-is_beyond_limits Byte word = not (is_number_from 0 255 word)
-is_beyond_limits ShowCount word = not (is_number_from 1 64 word)
-is_beyond_limits BatchCount word = not (is_number_from 1 4096 word)
-is_beyond_limits _ word = false
+-- whether a why holds of the words of a line, wherever it stands
+abbrev pub word_holds : ℕ → List (List ℕ) → Why → Bool
+word_holds callers words EmptyWord = list_any (λ word. length word == 0) words
+word_holds callers words UnknownCommand = is_none (form_of words)
+word_holds callers words WrongCount = option_map_or (λ f. not (has_count words f)) (form_of words) false
+word_holds callers words NotNumber = has_flaw callers flaw.NotNumber words
+word_holds callers words NoSuchCaller = has_flaw callers flaw.NoSuchCaller words
+word_holds callers words NotName = has_flaw callers flaw.NotName words
+word_holds callers words BeyondLimits = has_flaw callers flaw.BeyondLimits words
+word_holds callers words NotPlain = false
+word_holds callers words NotTrace = false
+word_holds callers words NotSpace = false
+word_holds callers words OutOfPlace = false
+word_holds callers words GivenBefore = false
 
 -- the line begins a round
 abbrev pub begins_round : List (List ℕ) → Bool
@@ -121,7 +112,7 @@ has_callers_line (words ∷ before) = if begins_round words then false else is_c
 abbrev pub is_out_of_place : List (List (List ℕ)) → List (List ℕ) → Bool
 is_out_of_place before words =
     if begins_round words
-    then nat_le 4096 (count_by begins_round before)
+    then nat_le MOST_ROUNDS (count_by begins_round before)
     else (count_by begins_round before == 0) || (not (is_callers words) && has_callers_line before)
 
 -- the word under which a line gives a block
@@ -134,28 +125,25 @@ abbrev pub is_given_before : List (List (List ℕ)) → List (List ℕ) → Bool
 is_given_before before words = option_map_or (λ given. list_any (bytes_eq given) (filter_map given_in before)) (given_in words) false
 
 -- whether a why holds of a line
-abbrev pub holds : Why → Spot → Cut → Bool
-holds NotPlain spot l = not (is_plain l)
+abbrev pub holds : Why → Position → Cut → Bool
+holds NotPlain position l = not (is_plain l)
 holds NotTrace first l = not (bytes_eq l.text (codes "mzone-trace 1"))
 holds NotSpace second l = is_none (profile_in (words_of l.text))
-holds EmptyWord (later callers before) l = list_any (λ word. length word == 0) (words_of l.text)
-holds UnknownCommand (later callers before) l = is_none (form_of (words_of l.text))
-holds WrongCount (later callers before) l = not (has_count (words_of l.text))
-holds NotNumber (later callers before) l = some_word is_no_number (words_of l.text)
-holds NoSuchCaller (later callers before) l = some_word (is_no_caller callers) (words_of l.text)
-holds NotName (later callers before) l = some_word (is_no_name (fields_of (words_of l.text))) (words_of l.text)
-holds BeyondLimits (later callers before) l = some_word is_beyond_limits (words_of l.text)
 holds OutOfPlace (later callers before) l = is_out_of_place before (words_of l.text)
 holds GivenBefore (later callers before) l = is_given_before before (words_of l.text)
+holds y (later callers before) l = word_holds callers (words_of l.text) y
 holds _ _ l = false
 
--- all whys, in their order
+-- the whys in their order: of the words of a line, and all
+abbrev pub word_whys : List Why
+word_whys = EmptyWord ∷ UnknownCommand ∷ WrongCount ∷ NotNumber ∷ NoSuchCaller ∷ NotName ∷ BeyondLimits ∷ []
+
 abbrev pub whys : List Why
 whys = NotPlain ∷ NotTrace ∷ NotSpace ∷ EmptyWord ∷ UnknownCommand ∷ WrongCount ∷ NotNumber ∷ NoSuchCaller ∷ NotName ∷ BeyondLimits ∷ OutOfPlace ∷ GivenBefore ∷ []
 
 -- the first that holds of a line
-abbrev pub why_of : Spot → Cut → Option Why
-why_of spot l = find (λ y. holds y spot l) whys
+abbrev pub why_of : Position → Cut → Option Why
+why_of position l = find (λ y. holds y position l) whys
 
 -- a line's number, with the first why that holds of it
 abbrev pub BadLine : Type 0

@@ -3,7 +3,8 @@ use Rattle.std.specs.Prelude.{ℕ, zero, suc, ◌+◌, ◌≡◌, ◌==◌, List
 use Rattle.std.specs.List.{AllByRecursion}
 use Rattle.mz_trace.specs.declared.command.Command.{Command}
 use Rattle.mz_trace.specs.declared.round.Round.{Round}
-use Rattle.mz_trace.specs.Lines.{Line, round, start, call}
+use Rattle.mz_trace.specs.declared.line.Line.{Line}
+use Rattle.mz_trace.specs.declared.line.Line.TheVariants.{Round as round, Start as start, Call as call}
 
 -- a command with the caller that gives it
 abbrev pub Call : Type 0

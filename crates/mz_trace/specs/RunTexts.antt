@@ -1,13 +1,8 @@
 -- The texts of printed runs. This project's own.
-use Rattle.std.specs.Prelude.{ℕ, ◌+◌, ◌/◌, ◌%◌, nat_lt, List, [], ◌∷◌, ◌++◌, map, codes, if◌then◌else◌}
+use Rattle.std.specs.Prelude.{ℕ, ◌+◌, List, [], ◌∷◌, ◌++◌, map, codes}
 use Rattle.std.specs.List.{flat_map}
 use Rattle.std.specs.Fmt.{decimal}
-use Rattle.mz_history.specs.declared.place.Place.{Place}
-use Rattle.mz_history.specs.declared.place.Place.TheVariants as place
-use Rattle.mz_history.specs.declared.event.Event.{Event}
-use Rattle.mz_history.specs.declared.event.Event.TheVariants as event
 use Rattle.mz_trace.specs.declared.answer.Answer.{Answer}
-use Rattle.mz_trace.specs.declared.answer.Answer.TheVariants as answer
 use Rattle.mz_trace.specs.declared.run.Step.{Step}
 use Rattle.mz_trace.specs.declared.run.StartRecord.{StartRecord}
 use Rattle.mz_trace.specs.declared.run.CallRecord.{CallRecord}
@@ -15,65 +10,12 @@ use Rattle.mz_trace.specs.declared.run.RunRound.{RunRound}
 use Rattle.mz_trace.specs.declared.run.Run.{Run}
 use Rattle.mz_trace.specs.declared.round.Round.{Round}
 use Rattle.mz_trace.specs.declared.trace.Trace.{Trace}
-use Rattle.mz_trace.specs.Lines.{command_words, start_words}
-use Rattle.mz_trace.specs.Texts.{line_text, space_words}
-
--- a place: the free pages, tiny and small magazines and depots, large, nano
-abbrev pub place_word : Place → List ℕ
-place_word place.Pages = codes "p"
-place_word (place.Tiny z m) = decimal z ++ codes "t" ++ decimal m
-place_word (place.TinyDepot z) = decimal z ++ codes "td"
-place_word (place.Small z m) = decimal z ++ codes "s" ++ decimal m
-place_word (place.SmallDepot z) = decimal z ++ codes "sd"
-place_word (place.Large z) = decimal z ++ codes "l"
-place_word place.Nano = codes "n"
-
--- an event: its word, then its places and numbers
-abbrev pub event_words : Event → List (List ℕ)
-event_words (event.Take k f w) = codes "take" ∷ place_word k ∷ decimal f ∷ decimal w ∷ []
-event_words (event.Back k f w) = codes "back" ∷ place_word k ∷ decimal f ∷ decimal w ∷ []
-event_words (event.Move f from to) = codes "move" ∷ decimal f ∷ place_word from ∷ place_word to ∷ []
-event_words (event.New k a s al) = codes "new" ∷ place_word k ∷ decimal a ∷ decimal s ∷ decimal al ∷ []
-event_words (event.End k a s) = codes "end" ∷ place_word k ∷ decimal a ∷ decimal s ∷ []
-event_words (event.Size k a s s2) = codes "size" ∷ place_word k ∷ decimal a ∷ decimal s ∷ decimal s2 ∷ []
-event_words (event.Full k n al) = codes "full" ∷ place_word k ∷ decimal n ∷ decimal al ∷ []
-event_words (event.Dry z w al) = codes "dry" ∷ decimal z ∷ decimal w ∷ decimal al ∷ []
-event_words (event.No k z a s) = codes "no" ∷ place_word k ∷ decimal z ∷ decimal a ∷ decimal s ∷ []
-event_words (event.Open z) = codes "open" ∷ decimal z ∷ []
-event_words (event.Shut z) = codes "shut" ∷ decimal z ∷ []
-
--- bytes as hexadecimal digits, two for each
-abbrev pub hex_digit : ℕ → ℕ
-hex_digit n = if nat_lt n 10 then 48 + n else 87 + n
-
-abbrev pub hex_byte : ℕ → List ℕ
-hex_byte b = hex_digit (b / 16) ∷ hex_digit (b % 16) ∷ []
-
-abbrev pub hex_word : List ℕ → List ℕ
-hex_word bytes = flat_map hex_byte bytes
-
-abbrev pub answer_words : Answer → List (List ℕ)
-answer_words answer.Held = codes "held" ∷ []
-answer_words answer.NoZone = codes "no-zone" ∷ []
-answer_words answer.Overflow = codes "overflow" ∷ []
-answer_words answer.BadAlign = codes "bad-align" ∷ []
-answer_words answer.NotHeld = codes "not-held" ∷ []
-answer_words (answer.WrongSize s) = codes "wrong-size" ∷ decimal s ∷ []
-answer_words answer.OutOfRange = codes "out-of-range" ∷ []
-answer_words answer.NameTaken = codes "name-taken" ∷ []
-answer_words answer.TooMany = codes "too-many" ∷ []
-answer_words answer.IsDefault = codes "is-default" ∷ []
-answer_words (answer.HasLive n) = codes "has-live" ∷ decimal n ∷ []
-answer_words answer.Null = codes "null" ∷ []
-answer_words answer.Nowhere = codes "none" ∷ []
-answer_words answer.Done = codes "ok" ∷ []
-answer_words answer.NotLive = codes "not-live" ∷ []
-answer_words (answer.Block a s) = codes "block" ∷ decimal a ∷ decimal s ∷ []
-answer_words (answer.Size s) = codes "size" ∷ decimal s ∷ []
-answer_words (answer.Bytes shown) = codes "bytes" ∷ hex_word shown ∷ []
-answer_words (answer.Got n) = codes "got" ∷ decimal n ∷ []
-answer_words (answer.Freed n) = codes "freed" ∷ decimal n ∷ []
-answer_words (answer.Zone name) = codes "zone" ∷ name ∷ []
+use Rattle.mz_words.specs.Lines.{line_text}
+use Rattle.mz_trace.specs.Commands.{command_words}
+use Rattle.mz_trace.specs.RoundLines.{start_words}
+use Rattle.mz_trace.specs.Events.{event_words}
+use Rattle.mz_trace.specs.Answers.{answer_words}
+use Rattle.mz_trace.specs.Spaces.{space_words}
 
 -- an entry: its ticket and its event
 abbrev pub step_words : Step → List (List ℕ)

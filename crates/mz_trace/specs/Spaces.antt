@@ -1,8 +1,15 @@
 -- The second line of a trace: `space P callers C magazines M nano N gen G zones Z`. This project's own.
 use Rattle.std.specs.Prelude.{ℕ, Bool, nat_le, ◌&&◌, List, [], ◌∷◌, Option, None, Some, codes, if◌then◌else◌}
 use Rattle.std.specs.Str.{bytes_eq}
+use Rattle.std.specs.Fmt.{decimal}
 use Rattle.mz_base.specs.declared.profile.Profile.{Profile}
-use Rattle.mz_trace.specs.Numbers.{is_from, number_of, ◌>>=◌}
+use Rattle.mz_words.specs.Numbers.{is_from, number_of, ◌>>=◌}
+
+-- how a profile is written
+abbrev pub space_words : Profile → List (List ℕ)
+space_words p =
+    codes "space" ∷ decimal p.pages ∷ codes "callers" ∷ decimal p.callers ∷ codes "magazines" ∷ decimal p.magazines
+    ∷ codes "nano" ∷ decimal p.nano ∷ codes "gen" ∷ decimal p.most_gen ∷ codes "zones" ∷ decimal p.zones ∷ []
 
 -- each number of the profile is within its limits, as a test
 abbrev pub is_within_limits : Profile → Bool

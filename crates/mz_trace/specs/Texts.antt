@@ -1,25 +1,19 @@
 -- The texts of traces. This project's own.
 use Rattle.std.specs.Prelude.{ℕ, ◌≡◌, ◌≤◌, List, [], ◌∷◌, ◌++◌, length, count_by, codes, true}
-use Rattle.std.specs.List.{join_with_byte, list_all, flat_map}
-use Rattle.std.specs.Fmt.{decimal}
+use Rattle.std.specs.List.{list_all, flat_map}
 use Rattle.mz_base.specs.Limits.{IsWithinLimits}
 use Rattle.mz_base.specs.declared.profile.Profile.{Profile}
+use Rattle.mz_trace.specs.declared.round.TheConstants.{MOST_ROUNDS}
 use Rattle.mz_trace.specs.declared.trace.Trace.{Trace}
-use Rattle.mz_trace.specs.Lines.{Line, line_words, line_fits, gives}
+use Rattle.mz_words.specs.Lines.{line_text}
+use Rattle.mz_trace.specs.declared.line.Line.{Line}
+use Rattle.mz_trace.specs.Lines.{line_words, line_fits, gives}
+use Rattle.mz_trace.specs.Spaces.{space_words}
 use Rattle.mz_trace.specs.Rounds.{AreRounds, HaveLists, lines_of_rounds}
 
--- a line: its words with one space between each two, and a line feed
-abbrev pub line_text : List (List ℕ) → List ℕ
-line_text words = join_with_byte 32 words ++ 10 ∷ []
-
+-- the words of the first line
 abbrev pub first_words : List (List ℕ)
 first_words = codes "mzone-trace" ∷ codes "1" ∷ []
-
--- `space P callers C magazines M nano N gen G zones Z`
-abbrev pub space_words : Profile → List (List ℕ)
-space_words p =
-    codes "space" ∷ decimal p.pages ∷ codes "callers" ∷ decimal p.callers ∷ codes "magazines" ∷ decimal p.magazines
-    ∷ codes "nano" ∷ decimal p.nano ∷ codes "gen" ∷ decimal p.most_gen ∷ codes "zones" ∷ decimal p.zones ∷ []
 
 -- the text of lines, and of lines behind a profile
 abbrev pub lines_text : List Line → List ℕ
@@ -41,7 +35,7 @@ pub record IsTraceText (bytes : List ℕ) (t : Trace) : Type 0 where
   pub spelled : bytes ≡ text_of t.profile lines
   pub kept : AreLines t.profile lines
   pub rounds : AreRounds t.profile.callers lines t.rounds
-  pub few : length t.rounds ≤ 4096
+  pub few : length t.rounds ≤ MOST_ROUNDS
 
 -- the bytes are a text of some trace
 abbrev pub HasTrace : List ℕ → Type 0
@@ -58,4 +52,4 @@ normal_text t = text_of t.profile (lines_of t)
 pub record IsTrace (t : Trace) : Type 0 where
   pub kept : AreLines t.profile (lines_of t)
   pub lists : HaveLists t.profile.callers t.rounds
-  pub few : length t.rounds ≤ 4096
+  pub few : length t.rounds ≤ MOST_ROUNDS

@@ -1,72 +1,12 @@
-ghost use Rattle.std.specs.Prelude.{◌≡◌, ◌↔◌, ◌≤◌, IsSome, IfSome, length};
-ghost use Rattle.std.specs.Cmp.Lexicographic.{nat_list_eq_equiv};
-ghost use Rattle.std.specs.Cmp.{partial_equiv_from_equiv};
-ghost use Rattle.std.specs.Str.{bytes_eq};
+//! What a line of a trace is answered, and how that is written.
+
+ghost use Rattle.std.specs.Prelude.{◌≡◌, ◌++◌, OnOk, string_bytes};
+ghost use Rattle.std.specs.List.{join_with_byte};
+ghost use Rattle.mz_trace.specs.Answers.{answer_words};
 
 use mz_base::ZoneName;
-use std::marker::Model;
-
-/// The bytes of a block that are shown, from 1 to 64 of them. Contracts see them as a list.
-#[derive(Clone, Copy, Debug)]
-pub struct Shown {
-    bytes: [u8; 64],
-    len: usize,
-}
-
-impl Model for Shown {
-    ghost use Rattle.std.specs.Prelude.{◌≡◌, ◌-◌, ◌≤◌, ◌++◌, List, ℕ, length, take, replicate};
-
-    ghost Value = { List ℕ };
-
-    ghost view = { λ s. take s.len s.bytes };
-
-    ghost invariant = { λ s. (1 ≤ s.len)
-        × (s.len ≤ 64)
-        × (length s.bytes ≡ 64)
-        × (s.bytes ≡ take s.len s.bytes ++ replicate (64 - s.len) 0) };
-
-    ghost inverse = { λ v. record { bytes = v ++ replicate (64 - length v) 0; len = length v } };
-}
-
-impl Shown {
-    /// These bytes, or None where there are none, or more than 64.
-    pub fn new(bytes: &[u8]) -> Option<Shown>
-        ensures some { IsSome result ↔ ((1 ≤ length bytes.now) × (length bytes.now ≤ 64)) }
-        ensures bytes { IfSome result (λ shown. shown ≡ bytes.now) }
-    {
-        if bytes.is_empty() || bytes.len() > 64 {
-            return None;
-        }
-        let mut shown = [0; 64];
-        shown[..bytes.len()].copy_from_slice(bytes);
-        Some(Shown {
-            bytes: shown,
-            len: bytes.len(),
-        })
-    }
-
-    /// The bytes.
-    pub fn bytes(&self) -> &[u8]
-        ensures bytes { result.now ≡ self.now }
-        ensures count { (1 ≤ length result.now) × (length result.now ≤ 64) }
-    {
-        &self.bytes[..self.len]
-    }
-}
-
-impl PartialEq for Shown {
-    ghost eq = { bytes_eq };
-
-    ghost laws = { partial_equiv_from_equiv nat_list_eq_equiv };
-
-    fn eq(&self, other: &Shown) -> bool {
-        self.bytes() == other.bytes()
-    }
-}
-
-impl Eq for Shown {
-    ghost laws = { nat_list_eq_equiv };
-}
+use mz_words::{Form, Shown, Word, write_sentence};
+use std::alloc::AllocError;
 
 /// What a line of a trace is answered.
 #[derive(Clone, Copy, Debug, PartialEq, Eq)]
@@ -113,4 +53,38 @@ pub enum Answer {
     Freed { n: u64 },
     /// The block is one of this zone.
     Zone { name: ZoneName },
+}
+
+/// Adds the words of an answer, with one space between each two. After an error a part of that text may
+/// stand there.
+pub fn write_answer(out: &mut String, answer: &Answer) -> Result<(), AllocError>
+    ensures { OnOk result (string_bytes out.new ≡ string_bytes out.old ++ join_with_byte 32 (answer_words answer.now)) }
+{
+    match *answer {
+        Answer::Held => write_sentence(out, Form::Held, &[]),
+        Answer::NoZone => write_sentence(out, Form::NoZone, &[]),
+        Answer::Overflow => write_sentence(out, Form::Overflow, &[]),
+        Answer::BadAlign => write_sentence(out, Form::BadAlign, &[]),
+        Answer::NotHeld => write_sentence(out, Form::NotHeld, &[]),
+        Answer::WrongSize { s } => write_sentence(out, Form::WrongSize, &[Word::Number(s)]),
+        Answer::OutOfRange => write_sentence(out, Form::OutOfRange, &[]),
+        Answer::NameTaken => write_sentence(out, Form::NameTaken, &[]),
+        Answer::TooMany => write_sentence(out, Form::TooMany, &[]),
+        Answer::IsDefault => write_sentence(out, Form::IsDefault, &[]),
+        Answer::HasLive { n } => write_sentence(out, Form::HasLive, &[Word::Number(n)]),
+        Answer::Null => write_sentence(out, Form::Null, &[]),
+        Answer::Nowhere => write_sentence(out, Form::Nowhere, &[]),
+        Answer::Done => write_sentence(out, Form::Done, &[]),
+        Answer::NotLive => write_sentence(out, Form::NotLive, &[]),
+        Answer::Block { a, s } => write_sentence(
+            out,
+            Form::Block,
+            &[Word::Number(a), Word::Number(s)],
+        ),
+        Answer::Size { s } => write_sentence(out, Form::SizeIs, &[Word::Number(s)]),
+        Answer::Bytes { shown } => write_sentence(out, Form::Bytes, &[Word::Bytes(shown)]),
+        Answer::Got { n } => write_sentence(out, Form::Got, &[Word::Number(n)]),
+        Answer::Freed { n } => write_sentence(out, Form::Freed, &[Word::Number(n)]),
+        Answer::Zone { name } => write_sentence(out, Form::InZone, &[Word::Zone(name)]),
+    }
 }

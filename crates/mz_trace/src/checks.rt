@@ -1,224 +1,151 @@
-//! What can be wrong with a line.
+//! What can be wrong with the words of a line, wherever it stands.
 
-ghost use Rattle.std.specs.Prelude.{◌≡◌, map, IfOk};
-ghost use Rattle.std.specs.List.{zip, list_any};
-ghost use Rattle.mz_trace.specs.Names.{is_name, is_batch_name, is_given_name};
-ghost use Rattle.std.specs.Str.{bytes_eq};
-ghost use Rattle.mz_base.specs.Names.{is_base_name};
-ghost use Rattle.mz_trace.specs.Forms.{form_among, begins_with_digit, is_callers, caller_form, form_of, fields_of};
-ghost use Rattle.mz_trace.specs.Faults.{is_numeric, is_no_caller, is_no_name, is_beyond_limits, second_field, begins_round};
-ghost use Rattle.mz_trace.specs.Reading.{is_wrong};
+ghost use Rattle.std.specs.Prelude.{◌≡◌, ◌==◌, length, map};
+ghost use Rattle.std.specs.List.{list_any};
+ghost use Rattle.mz_trace.specs.Faults.{behind_first, caller_wrong, field_wrong, fields_of, form_among_words, form_of, has_count, has_flaw, word_holds};
+ghost use Rattle.mz_trace.specs.Readers.{word_why};
 
-use crate::form::{CALLER_FORMS, Form, Operand, ROUND_FORMS};
-use crate::name::BaseName;
-use crate::reading;
-use crate::words::is_number;
-use std::alloc::{AllocError, Global};
+use crate::fault::Why;
+use crate::line::begins_with_digit;
+use mz_words::flaw::is_wrong;
+use mz_words::table::{COMMANDS, ROUND_LINES};
+use mz_words::{Flaw, Form, Kind, form_among, some_wrong};
 
-/// The form with this command word.
-pub fn form_among(forms: &[Form], word: &[u8]) -> Option<Form>
-    ensures { result ≡ form_among forms.now word.now }
+/// The whys that the words of a line can have, in their order.
+const WORD_WHYS: [Why; 7] = [
+    Why::EmptyWord,
+    Why::UnknownCommand,
+    Why::WrongCount,
+    Why::NotNumber,
+    Why::NoSuchCaller,
+    Why::NotName,
+    Why::BeyondLimits,
+];
+
+/// The first of them that holds.
+pub fn word_why(callers: u32, words: &[&[u8]]) -> Option<Why>
+    ensures { result ≡ word_why callers (map (λ w. w.now) words.now) }
 {
-    forms.iter().copied().find(|form| word == form.word())
+    WORD_WHYS
+        .iter()
+        .copied()
+        .find(|why| word_holds(callers, words, *why))
 }
 
-/// Whether a word begins with a digit.
-pub fn begins_with_digit(word: &[u8]) -> bool
-    ensures { result ≡ begins_with_digit word.now }
+/// Whether a why holds of the words of a line.
+fn word_holds(callers: u32, words: &[&[u8]], why: Why) -> bool
+    ensures { result ≡ word_holds callers (map (λ w. w.now) words.now) why }
 {
-    match word {
+    match why {
+        Why::EmptyWord => has_empty(words),
+        Why::UnknownCommand => form_of(words).is_none(),
+        Why::WrongCount => match form_of(words) {
+            Some(form) => !has_count(words, form),
+            None => false,
+        },
+        Why::NotNumber => has_flaw(callers, Flaw::NotNumber, words),
+        Why::NoSuchCaller => has_flaw(callers, Flaw::NoSuchCaller, words),
+        Why::NotName => has_flaw(callers, Flaw::NotName, words),
+        Why::BeyondLimits => has_flaw(callers, Flaw::BeyondLimits, words),
+        Why::NotPlain | Why::NotTrace | Why::NotSpace | Why::OutOfPlace | Why::GivenBefore => false,
+    }
+}
+
+/// Whether a word is empty.
+fn has_empty(words: &[&[u8]]) -> bool
+    ensures { result ≡ list_any (λ w. length w == 0) (map (λ w. w.now) words.now) }
+{
+    match words {
         [] => false,
-        [first, ..] => first.is_ascii_digit(),
+        [word, rest @ ..] => word.is_empty() || has_empty(rest),
     }
 }
 
 /// The form of a line by its words.
-pub fn form_of(words: &[&[u8]]) -> Option<Form>
+fn form_of(words: &[&[u8]]) -> Option<Form>
     ensures { result ≡ form_of (map (λ w. w.now) words.now) }
 {
     match words {
         [] => None,
         [first, rest @ ..] => {
             if begins_with_digit(first) {
-                caller_form(rest)
+                form_among_words(&COMMANDS, rest)
             } else {
-                form_among(&ROUND_FORMS, first)
+                form_among(&ROUND_LINES, first)
             }
         }
     }
 }
 
-/// The form of a caller's line by its words behind the first.
-fn caller_form(words: &[&[u8]]) -> Option<Form>
-    ensures { result ≡ caller_form (map (λ w. w.now) words.now) }
+/// The form that the first word is the word of.
+fn form_among_words(forms: &[Form], words: &[&[u8]]) -> Option<Form>
+    ensures { result ≡ form_among_words forms.now (map (λ w. w.now) words.now) }
 {
     match words {
         [] => None,
-        [word, ..] => form_among(&CALLER_FORMS, word),
+        [word, ..] => form_among(forms, word),
     }
 }
 
-/// Whether a line is a caller's.
-pub fn is_callers(words: &[&[u8]]) -> bool
-    ensures { result ≡ is_callers (map (λ w. w.now) words.now) }
+/// The words behind the first.
+fn behind_first<'w, 'a>(words: &'w [&'a [u8]]) -> &'w [&'a [u8]]
+    ensures { map (λ w. w.now) result.now ≡ behind_first (map (λ w. w.now) words.now) }
 {
     match words {
-        [] => false,
-        [first, ..] => begins_with_digit(first),
+        [] => words,
+        [_, rest @ ..] => rest,
     }
 }
 
-/// Whether a line begins a round.
-pub fn begins_round(words: &[&[u8]]) -> bool
-    ensures { result ≡ begins_round (map (λ w. w.now) words.now) }
+/// The words behind the form's.
+fn fields<'w, 'a>(words: &'w [&'a [u8]]) -> &'w [&'a [u8]]
+    ensures { map (λ w. w.now) result.now ≡ fields_of (map (λ w. w.now) words.now) }
 {
     match words {
-        [word] => *word == b"round".as_slice(),
-        _ => false,
-    }
-}
-
-/// The words of a line without its command word.
-pub fn fields<'a>(alloc: Global, words: &[&'a [u8]]) -> Result<Vec<&'a [u8]>, AllocError>
-    ensures { IfOk result (λ v. map (λ w. w.now) v.items ≡ fields_of (map (λ w. w.now) words.now)) }
-{
-    let mut fields = Vec::from_slice(alloc, words)?;
-    let place = usize::from(is_callers(words));
-    if place < fields.len() {
-        fields.remove(place);
-    }
-    Ok(fields)
-}
-
-/// What is asked of the words of a line, each in its place.
-#[derive(Clone, Copy, Debug)]
-pub enum Demand {
-    /// That numbers are numbers.
-    Numbers,
-    /// That there are such callers, below this number.
-    Callers(u32),
-    /// That names have their form.
-    Names,
-    /// That bytes and counts are within their limits.
-    Limits,
-}
-
-/// Whether some word isn't what is asked of its place. The words are the last ones of `fields`.
-pub fn some_wrong<'a>(
-    demand: Demand,
-    fields: &[&'a [u8]],
-    places: &[Operand],
-    words: &[&'a [u8]],
-) -> bool
-    ensures { result ≡ list_any (λ p. is_wrong demand (map (λ w. w.now) fields.now) p.0 p.1) (zip places.now (map (λ w. w.now) words.now)) }
-{
-    match places {
-        [] => false,
-        [place, places @ ..] => match words {
-            [] => false,
-            [word, words @ ..] => {
-                is_wrong(demand, fields, *place, word) || some_wrong(demand, fields, places, words)
+        [] => words,
+        [first, rest @ ..] => {
+            if begins_with_digit(first) {
+                behind_first(rest)
+            } else {
+                rest
             }
-        },
+        }
     }
 }
 
-/// Whether a word isn't what is asked of its place.
-fn is_wrong(demand: Demand, fields: &[&[u8]], place: Operand, word: &[u8]) -> bool
-    ensures { result ≡ is_wrong demand (map (λ w. w.now) fields.now) place word.now }
+/// Whether there are as many words as the form asks for.
+fn has_count(words: &[&[u8]], form: Form) -> bool
+    ensures { result ≡ has_count (map (λ w. w.now) words.now) form }
 {
-    match demand {
-        Demand::Numbers => is_numeric(place) && !is_number(word),
-        Demand::Callers(callers) => is_no_caller(callers, place, word),
-        Demand::Names => is_no_name(fields, place, word),
-        Demand::Limits => is_beyond_limits(place, word),
+    form.row().kinds.len() == fields(words).len()
+}
+
+/// Whether some word has the flaw.
+fn has_flaw(callers: u32, flaw: Flaw, words: &[&[u8]]) -> bool
+    ensures { result ≡ has_flaw callers flaw (map (λ w. w.now) words.now) }
+{
+    match form_of(words) {
+        Some(form) => field_wrong(callers, flaw, words, form),
+        None => false,
     }
 }
 
-/// Whether a number stands in the place.
-fn is_numeric(place: Operand) -> bool
-    ensures { result ≡ is_numeric place }
+/// Whether the caller's number or a word behind the form's has the flaw.
+fn field_wrong(callers: u32, flaw: Flaw, words: &[&[u8]], form: Form) -> bool
+    ensures { result ≡ field_wrong callers flaw (map (λ w. w.now) words.now) form }
 {
-    match place {
-        Operand::Caller => true,
-        Operand::Number => true,
-        Operand::Byte => true,
-        Operand::ShowCount => true,
-        Operand::BatchCount => true,
-        _ => false,
-    }
+    caller_wrong(callers, flaw, words)
+        || some_wrong(callers, flaw, b"", form.row().kinds, fields(words))
 }
 
-/// Whether a word in the place of a caller's number is none.
-fn is_no_caller(callers: u32, place: Operand, word: &[u8]) -> bool
-    ensures { result ≡ is_no_caller callers place word.now }
+/// Whether the number of the caller has the flaw.
+fn caller_wrong(callers: u32, flaw: Flaw, words: &[&[u8]]) -> bool
+    ensures { result ≡ caller_wrong callers flaw (map (λ w. w.now) words.now) }
 {
-    match place {
-        Operand::Caller => reading::caller(callers, word).is_none(),
-        _ => false,
-    }
-}
-
-/// Whether a word in the place of a limited number isn't within its limits.
-fn is_beyond_limits(place: Operand, word: &[u8]) -> bool
-    ensures { result ≡ is_beyond_limits place word.now }
-{
-    match place {
-        Operand::Byte => reading::byte(word).is_none(),
-        Operand::ShowCount => reading::show_count(word).is_none(),
-        Operand::BatchCount => reading::batch_count(word).is_none(),
-        _ => false,
-    }
-}
-
-/// Whether a word in the place of a name hasn't its form.
-fn is_no_name(fields: &[&[u8]], place: Operand, word: &[u8]) -> bool
-    ensures { result ≡ is_no_name (map (λ w. w.now) fields.now) place word.now }
-{
-    match place {
-        Operand::Base => !is_base_name(word),
-        Operand::Name => !is_name(word),
-        Operand::Old => !(word == b"null".as_slice() || is_name(word)),
-        Operand::New => !(is_base_name(word) || is_name(word) && is_second(fields, word)),
-        Operand::Given => !is_given_name(word),
-        Operand::Zone => !is_base_name(word),
-        _ => false,
-    }
-}
-
-/// Whether a word is the second of the fields.
-fn is_second(fields: &[&[u8]], word: &[u8]) -> bool
-    ensures { result ≡ bytes_eq word.now (second_field (map (λ w. w.now) fields.now)) }
-{
-    match fields {
-        [_, old, ..] => word == *old,
-        _ => word.is_empty(),
-    }
-}
-
-fn is_base_name(word: &[u8]) -> bool
-    ensures { result ≡ is_base_name word.now }
-{
-    BaseName::new(word).is_some()
-}
-
-fn is_batch_name(word: &[u8]) -> bool
-    ensures { result ≡ is_batch_name word.now }
-{
-    reading::batch_name(word).is_some()
-}
-
-fn is_given_name(word: &[u8]) -> bool
-    ensures { result ≡ is_given_name word.now }
-{
-    match word {
+    match words {
         [] => false,
-        [first, rest @ ..] => *first == b'@' && is_base_name(rest),
+        [first, ..] => {
+            begins_with_digit(first) && is_wrong(callers, b"", flaw, Kind::Caller, first)
+        }
     }
-}
-
-fn is_name(word: &[u8]) -> bool
-    ensures { result ≡ is_name word.now }
-{
-    is_base_name(word) || is_batch_name(word) || is_given_name(word)
 }

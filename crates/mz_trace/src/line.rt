@@ -1,79 +1,134 @@
-//! Bytes, cut into lines.
+//! The lines of a trace behind its first two.
 
-ghost use Rattle.std.specs.Prelude.{◌≡◌, ◌<◌, ◌+◌, ◌≤◌, ◌∷◌, [], IfSome, MatchOption, length, position, nat_eq};
-ghost use Rattle.std.specs.List.{list_all};
-ghost use Rattle.mz_trace.specs.Numbers.{is_from};
-ghost use Rattle.mz_trace.specs.Faults.{cuts, is_plain};
-ghost use Rattle.mz_trace.specs.RawLines.{cut_of};
-ghost use Rattle.mz_trace.specs.RunRests.{is_short};
-ghost use Rattle.std.specs.Prelude.{◌==◌, count_by};
+ghost use Rattle.std.specs.Prelude.{◌≡◌, IfOk, map};
+ghost use Rattle.mz_trace.specs.Faults.{begins_with_digit};
+ghost use Rattle.mz_trace.specs.Reading.{call_in, heading_in, heading_of, line_in};
 
-/// The bytes before a line feed, or behind the last one.
-#[derive(Clone, Copy, Debug)]
-pub struct RawLine<'a> {
-    pub text: &'a [u8],
-    /// Whether a line feed follows.
-    pub ended: bool,
+use crate::command::{Command, read_command};
+use crate::round::{RoundLine, start_of};
+use mz_words::numbers::caller;
+use mz_words::table::ROUND_LINES;
+use mz_words::{Form, Word, read_sentence};
+use std::alloc::{AllocError, Global};
+use std::marker::Model;
+
+/// A line behind the first two.
+#[derive(Clone, Copy, Debug, PartialEq, Eq)]
+pub enum Line {
+    /// A round begins.
+    Round,
+    /// Something is done at the start of a round.
+    Start(RoundLine),
+    /// A caller asks for something.
+    Call { caller: u32, command: Command },
 }
 
-/// The first line, and the bytes behind it.
-pub fn next_line(bytes: &[u8]) -> Option<(RawLine<'_>, &[u8])>
-    ensures cut { MatchOption result (cuts bytes.now ≡ []) (λ x. cuts bytes.now ≡ cut_of x.0 ∷ cuts x.1.now) }
-    ensures shorter { IfSome result (λ x. length x.1.now < length bytes.now) }
-    ensures sum { IfSome result (λ x. length x.0.text.now + length x.1.now ≤ length bytes.now) }
-{
-    if bytes.is_empty() {
-        return None;
+/// A line that was read. Contracts see the `Line`.
+#[derive(Clone, Copy, Debug, PartialEq, Eq)]
+pub struct LineRead {
+    line: Line,
+}
+
+impl Model for LineRead {
+    ghost use Rattle.mz_trace.specs.declared.line.Line.{Line};
+
+    ghost Value = { Line };
+
+    ghost view = { λ s. s.line };
+
+    ghost inverse = { λ v. record { line = v } };
+}
+
+impl LineRead {
+    /// This line.
+    fn new(line: Line) -> LineRead
+        ensures { result ≡ line }
+    {
+        LineRead { line }
     }
-    match line_end(bytes) {
-        Some(end) => {
-            let line = RawLine {
-                text: &bytes[..end],
-                ended: true,
-            };
-            Some((line, &bytes[end + 1..]))
-        }
-        None => {
-            let line = RawLine {
-                text: bytes,
-                ended: false,
-            };
-            Some((line, &bytes[bytes.len()..]))
+
+    /// Which line it is.
+    pub fn get(&self) -> &Line
+        ensures { result.now ≡ self.now }
+    {
+        &self.line
+    }
+}
+
+/// Whether a word begins with a digit, as the first of a caller's line does.
+pub fn begins_with_digit(word: &[u8]) -> bool
+    ensures { result ≡ begins_with_digit word.now }
+{
+    match word {
+        [] => false,
+        [first, ..] => first.is_ascii_digit(),
+    }
+}
+
+/// The line that words are, or None where they are none.
+pub fn read_line(
+    alloc: Global,
+    callers: u32,
+    words: &[&[u8]],
+) -> Result<Option<LineRead>, AllocError>
+    ensures { IfOk result (λ o. o ≡ line_in callers (map (λ w. w.now) words.now)) }
+{
+    match words {
+        [] => Ok(None),
+        [first, rest @ ..] => {
+            if begins_with_digit(first) {
+                read_call(alloc, callers, first, rest)
+            } else {
+                read_heading(alloc, callers, words)
+            }
         }
     }
 }
 
-/// The place of the first line feed.
-fn line_end(bytes: &[u8]) -> Option<usize>
-    ensures place { result ≡ position (λ b. nat_eq b 10) bytes.now }
-    ensures within { IfSome result (λ i. i < length bytes.now) }
+/// The line of a caller, whose number comes first.
+fn read_call(
+    alloc: Global,
+    callers: u32,
+    first: &[u8],
+    rest: &[&[u8]],
+) -> Result<Option<LineRead>, AllocError>
+    ensures { IfOk result (λ o. o ≡ call_in callers first.now (map (λ w. w.now) rest.now)) }
 {
-    bytes.iter().position(|b| *b == b'\n')
+    match caller(callers, first) {
+        None => Ok(None),
+        Some(caller) => match read_command(alloc, callers, rest)? {
+            None => Ok(None),
+            Some(command) => Ok(Some(LineRead::new(Line::Call { caller, command }))),
+        },
+    }
 }
 
-/// Whether a line can be read at all.
-pub fn is_plain(line: &RawLine<'_>) -> bool
-    ensures { result ≡ is_plain (cut_of line.now) }
+/// `round`, or a line at the start of one.
+fn read_heading(
+    alloc: Global,
+    callers: u32,
+    words: &[&[u8]],
+) -> Result<Option<LineRead>, AllocError>
+    ensures { IfOk result (λ o. o ≡ heading_in callers (map (λ w. w.now) words.now)) }
 {
-    line.ended && line.text.len() <= 255 && all_printable(line.text)
+    match read_sentence(alloc, callers, &ROUND_LINES, words)? {
+        Some(sentence) => Ok(heading_of(sentence.form, sentence.words.as_slice())),
+        None => Ok(None),
+    }
 }
 
-fn all_printable(text: &[u8]) -> bool
-    ensures { result ≡ list_all (is_from 32 126) text.now }
+/// The line that a sentence is.
+fn heading_of(form: Form, words: &[Word]) -> Option<LineRead>
+    ensures { result ≡ heading_of form words.now }
 {
-    text.iter().all(|b| 32 <= *b && *b <= 126)
-}
-
-/// Whether a line has a line feed and few words, so that no more than 12 are ever cut of a line of
-/// a run.
-pub fn is_short(line: &RawLine<'_>) -> bool
-    ensures { result ≡ is_short (cut_of line.now) }
-{
-    line.ended && spaces(line.text) <= 11
-}
-
-fn spaces(text: &[u8]) -> usize
-    ensures { result ≡ count_by (λ b. b == 32) text.now }
-{
-    text.iter().filter(|b| **b == b' ').count()
+    match form {
+        Form::Round => match words {
+            [] => Some(LineRead::new(Line::Round)),
+            _ => None,
+        },
+        _ => {
+            let line = start_of(form, words)?;
+            Some(LineRead::new(Line::Start(line)))
+        }
+    }
 }

@@ -1,23 +1,20 @@
 //! From a trace to its text in normal form.
 //!
-//! - `words`: the words of a line.
-//! - `lines`: the lines of a trace and of a run, as words.
-//!
 //! Each function but `print_trace` adds the text of its name to `out`. After an error a part of that
 //! text may stand there.
 
 ghost use Rattle.std.specs.Prelude.{◌≡◌, ◌++◌, OnOk, IfOk, string_bytes, map};
-ghost use Rattle.mz_trace.specs.Lines.{start, call};
+ghost use Rattle.mz_words.specs.Lines.{line_text};
+ghost use Rattle.mz_trace.specs.declared.line.Line.TheVariants.{Start as start, Call as call};
+ghost use Rattle.mz_trace.specs.Lines.{line_words};
 ghost use Rattle.mz_trace.specs.Rounds.{call_line, calls_from, round_lines, lines_of_rounds};
 ghost use Rattle.mz_trace.specs.Texts.{lines_text, normal_text, IsTrace, IsTraceText};
 
-pub mod lines;
-pub mod words;
-
-use crate::command::Command;
-use crate::round::{Commands, Round, RoundLine};
+use crate::command::{Command, write_command};
+use crate::round::{Round, RoundLine, write_start};
+use crate::space::write_space;
 use crate::trace::Trace;
-use lines::{print_command, print_space, print_start};
+use mz_base::Items;
 use std::alloc::{AllocError, Global};
 
 /// The text of a trace in normal form: in each round the lines at its start, then the commands of
@@ -28,7 +25,7 @@ pub fn print_trace(alloc: Global, trace: &Trace) -> Result<Vec<u8>, AllocError>
 {
     let mut out = String::new(alloc);
     out.push_str("mzone-trace 1\n")?;
-    print_space(&mut out, &trace.profile)?;
+    write_space(&mut out, &trace.profile)?;
     print_rounds(&mut out, trace.rounds.as_slice())?;
     Ok(out.into_bytes())
 }
@@ -56,14 +53,14 @@ fn print_starts(out: &mut String, lines: &[RoundLine]) -> Result<(), AllocError>
     ensures { OnOk result (string_bytes out.new ≡ string_bytes out.old ++ lines_text (map start lines.now)) }
 {
     for line in lines {
-        print_start(out, *line)?;
+        write_start(out, line)?;
         out.push_str("\n")?;
     }
     Ok(())
 }
 
 /// The lines of all callers, caller 0's first.
-fn print_callers(out: &mut String, lists: &[Commands]) -> Result<(), AllocError>
+fn print_callers(out: &mut String, lists: &[Items<Command>]) -> Result<(), AllocError>
     ensures { OnOk result (string_bytes out.new ≡ string_bytes out.old ++ lines_text (map call_line (calls_from 0 lists.now))) }
 {
     for (caller, commands) in lists.iter().enumerate() {
@@ -77,9 +74,16 @@ fn print_calls(out: &mut String, caller: usize, commands: &[Command]) -> Result<
     ensures { OnOk result (string_bytes out.new ≡ string_bytes out.old ++ lines_text (map (λ c. call caller c) commands.now)) }
 {
     for command in commands {
-        write!(out, "{caller}")?;
-        print_command(out, *command)?;
-        out.push_str("\n")?;
+        print_call(out, caller, command)?;
     }
     Ok(())
+}
+
+/// A line of a caller.
+fn print_call(out: &mut String, caller: usize, command: &Command) -> Result<(), AllocError>
+    ensures { OnOk result (string_bytes out.new ≡ string_bytes out.old ++ line_text (line_words (call caller command.now))) }
+{
+    write!(out, "{caller} ")?;
+    write_command(out, command)?;
+    out.push_str("\n")
 }

@@ -1,29 +1,23 @@
 //! What is kept of the lines that were read, and what the next one adds.
 
-ghost use Rattle.std.specs.Prelude.{◌≡◌, ◌<◌, ℕ, List, map, [], ◌∷◌, length, None, Some, OnOk, IfOk, MatchOption, true};
-ghost use Rattle.mz_trace.specs.declared.form.Form.TheVariants as forms;
-ghost use Rattle.std.specs.Prelude.{◌||◌, nat_eq};
-ghost use Rattle.std.specs.List.{list_any};
-ghost use Rattle.std.specs.Ordering.{nat_cmp};
-ghost use Rattle.std.specs.Cmp.Lexicographic.{slice_cmp};
-ghost use Rattle.std.specs.BTreeSet.{contains};
-ghost use Rattle.mz_trace.specs.Lines.{Line as line, round, start, call, command_gives};
-ghost use Rattle.mz_trace.specs.Forms.{form_of, fields_of};
-ghost use Rattle.mz_trace.specs.Faults.{given_in, is_out_of_place, is_given_before};
-ghost use Rattle.mz_trace.specs.Reading.{words_why, fields_why, place_why, form_why, line_as, call_in, caller_in, command_behind};
+ghost use Rattle.std.specs.Prelude.{◌≡◌, ◌<◌, ◌||◌, ℕ, List, map, [], None, OnOk, IfOk};
+ghost use Rattle.mz_trace.specs.declared.line.Line.TheVariants.{Round as round, Start as start, Call as call};
+ghost use Rattle.mz_trace.specs.Lines.{command_gives};
+ghost use Rattle.mz_trace.specs.Given.{has_name};
+ghost use Rattle.mz_words.specs.Lines.{cut_of};
 
-use crate::checks::{Demand, begins_round, fields, form_of, is_callers, some_wrong};
+use crate::checks::word_why;
 use crate::command::Command;
 use crate::fault::Why;
-use crate::form::Form;
-use crate::given::given_by;
-use crate::line::{RawLine, is_plain};
-use crate::name::BaseName;
-use crate::reading;
-use crate::round::{CallerLists, Round, RoundLine, RoundLines, Rounds};
-use crate::words::words;
+use crate::given::{GivenNames, given_by};
+use crate::line::{Line, read_line};
+use crate::open_round::OpenRound;
+use crate::round::{MOST_ROUNDS, Round, RoundLine};
+use mz_base::Items;
+use mz_words::laws::word_laws;
+use mz_words::line::is_plain;
+use mz_words::{RawLine, words};
 use std::alloc::{AllocError, Global};
-use std::collections::BTreeSet;
 use std::mem;
 
 /// The rounds so far, and what the whys of the next line ask of the lines before it.
@@ -34,145 +28,71 @@ pub struct Reader {
     /// Whether a caller's line stands in the open round.
     pub calling: bool,
     /// The names under which blocks were given.
-    pub given: BTreeSet<BaseName>,
+    pub given: GivenNames,
     /// The rounds before the open one.
-    pub rounds: Rounds,
+    pub rounds: Items<Round>,
     /// The open round, if one was begun.
-    pub open: Round,
-}
-
-/// The first why, from the count of the words to their limits, that holds of the words beside the
-/// command word.
-pub fn fields_why(callers: u32, form: Form, fields: &[&[u8]]) -> Option<Why>
-    ensures { result ≡ fields_why callers form (map (λ w. w.now) fields.now) }
-{
-    let places = form.operands();
-    if places.len() != fields.len() {
-        Some(Why::WrongCount)
-    } else if some_wrong(Demand::Numbers, fields, places, fields) {
-        Some(Why::NotNumber)
-    } else if some_wrong(Demand::Callers(callers), fields, places, fields) {
-        Some(Why::NoSuchCaller)
-    } else if some_wrong(Demand::Names, fields, places, fields) {
-        Some(Why::NotName)
-    } else if some_wrong(Demand::Limits, fields, places, fields) {
-        Some(Why::BeyondLimits)
-    } else {
-        None
-    }
-}
-
-/// The word under which a line gives a block.
-fn given_in<'a>(words: &[&'a [u8]]) -> Option<&'a [u8]>
-    ensures { MatchOption result (given_in (map (λ w. w.now) words.now) ≡ None) (λ w. given_in (map (λ w. w.now) words.now) ≡ Some w.now) }
-{
-    match words {
-        [_, command, _, _, given] => {
-            if *command == b"give".as_slice() {
-                Some(given)
-            } else {
-                None
-            }
-        }
-        _ => None,
-    }
-}
-
-/// Whether a word is empty.
-fn has_empty(words: &[&[u8]]) -> bool
-    ensures { result ≡ list_any (λ w. nat_eq (length w) 0) (map (λ w. w.now) words.now) }
-{
-    match words {
-        [] => false,
-        [word, rest @ ..] => word.is_empty() || has_empty(rest),
-    }
-}
-
-/// The caller of a command, by the words beside the command word.
-fn caller_in(callers: u32, fields: &[&[u8]]) -> Option<u32>
-    ensures { result ≡ caller_in callers (map (λ w. w.now) fields.now) }
-{
-    match fields {
-        [] => None,
-        [first, ..] => reading::caller(callers, first),
-    }
-}
-
-/// And the command itself.
-fn command_behind(callers: u32, form: Form, fields: &[&[u8]]) -> Option<Command>
-    ensures { result ≡ command_behind callers form (map (λ w. w.now) fields.now) }
-{
-    match fields {
-        [] => None,
-        [_, words @ ..] => reading::command(callers, form, words),
-    }
+    pub open: OpenRound,
 }
 
 /// Notes the name under which a command gives a block.
-fn note_given(given: &mut BTreeSet<BaseName>, command: &Command) -> Result<(), AllocError>
-    ensures { OnOk result ((base : List ℕ) → contains (slice_cmp nat_cmp) given.new base ≡ (command_gives base command.now || contains (slice_cmp nat_cmp) given.old base)) }
+fn note_given(given: &mut GivenNames, command: &Command) -> Result<(), AllocError>
+    ensures { OnOk result ((base : List ℕ) → has_name given.new base ≡ (command_gives base command.now || has_name given.old base)) }
 {
     match given_by(command) {
-        Some(base) => {
-            given.insert(base)?;
-            Ok(())
-        }
+        Some(base) => given.insert(base),
         None => Ok(()),
     }
 }
 
 impl Reader {
-    ghost use Rattle.mz_trace.specs.RawLines.{HasRead, IsReading, NamesGiven, ReadsLine, ReadsForm, ReadsCut, Adds, IsReady, rounds_in, cut_of};
+    ghost use Rattle.mz_trace.specs.Readers.{HasRead, IsReading, ReadsLine, ReadsCut, Adds, CanAdd, Takes, IsReady, is_given, is_misplaced, reader_why, rounds_in};
 
     /// Nothing was read.
     pub fn new(alloc: Global, callers: u32) -> Result<Reader, AllocError>
         ensures { IfOk result (λ r. HasRead callers [] r) }
     {
-        let open = Round {
-            lines: RoundLines::new(alloc),
-            commands: CallerLists::new(alloc, callers)?,
-        };
         Ok(Reader {
             begun: 0,
             calling: false,
-            given: BTreeSet::new(alloc),
-            rounds: Rounds::new(alloc),
-            open,
+            given: GivenNames::new(alloc),
+            rounds: Items::new(alloc),
+            open: OpenRound::new(alloc, callers)?,
         })
     }
 
     /// Whether the line is one before the first round, a round's behind a caller's, or a round too
     /// many.
-    fn is_out_of_place(&self, words: &[&[u8]]) -> bool
-        ensures { (callers : ℕ) (before : List (List (List ℕ))) → HasRead callers before self.now → result ≡ is_out_of_place before (map (λ w. w.now) words.now) }
+    fn is_misplaced(&self, line: &Line) -> bool
+        ensures { result ≡ is_misplaced self.now line.now }
     {
-        if begins_round(words) {
-            self.begun >= 4096
-        } else {
-            self.begun == 0 || (!is_callers(words) && self.calling)
+        match line {
+            Line::Round => self.begun >= MOST_ROUNDS,
+            Line::Start(_) => self.begun == 0 || self.calling,
+            Line::Call { .. } => self.begun == 0,
         }
     }
 
-    /// Whether the line gives a block under a word under which an earlier one does.
-    fn is_given_before(&self, words: &[&[u8]]) -> bool
-        ensures { (callers : ℕ) (before : List (List (List ℕ))) → HasRead callers before self.now → NamesGiven (map (λ w. w.now) words.now) → result ≡ is_given_before before (map (λ w. w.now) words.now) }
+    /// Whether the line gives a block under a name under which an earlier one does.
+    fn is_given(&self, line: &Line) -> bool
+        ensures { result ≡ is_given self.now line.now }
     {
-        match given_in(words) {
-            Some(word) => match reading::given(word) {
-                Some(given) => self.given.contains(&given.base),
+        match line {
+            Line::Call { command, .. } => match given_by(command) {
+                Some(base) => self.given.contains(&base),
                 None => false,
             },
-            None => false,
+            _ => false,
         }
     }
 
     /// The first why about the line's place.
-    pub fn place_why(&self, words: &[&[u8]]) -> Option<Why>
-        ensures { (callers : ℕ) (before : List (List (List ℕ))) → HasRead callers before self.now → NamesGiven (map (λ w. w.now) words.now) → result ≡ place_why before (map (λ w. w.now) words.now) }
+    fn place_why(&self, line: &Line) -> Option<Why>
+        ensures { result ≡ reader_why self.now line.now }
     {
-        if self.is_out_of_place(words) {
+        if self.is_misplaced(line) {
             Some(Why::OutOfPlace)
-        } else if self.is_given_before(words) {
+        } else if self.is_given(line) {
             Some(Why::GivenBefore)
         } else {
             None
@@ -196,7 +116,7 @@ impl Reader {
         self.read(alloc, callers, &words)
     }
 
-    /// Reads one more line, unless a why holds of it.
+    /// Reads one more line, unless a why holds of it. A good line is tested once, by reading it.
     fn read(
         &mut self,
         alloc: Global,
@@ -206,70 +126,34 @@ impl Reader {
         requires { IsReading callers self.old }
         ensures { (before : List (List (List ℕ))) → HasRead callers before self.old → IfOk result (ReadsLine callers before (map (λ w. w.now) words.now) self.new) }
     {
-        if has_empty(words) {
-            return Ok(Some(Why::EmptyWord));
-        }
-        match form_of(words) {
-            None => Ok(Some(Why::UnknownCommand)),
-            Some(form) => self.read_form(alloc, callers, form, words),
+        word_laws();
+        match read_line(alloc, callers, words)? {
+            None => Ok(word_why(callers, words)),
+            Some(line) => self.take(alloc, callers, line.get()),
         }
     }
 
-    /// Reads one more line, which is of this form.
-    fn read_form(
-        &mut self,
-        alloc: Global,
-        callers: u32,
-        form: Form,
-        words: &[&[u8]],
-    ) -> Result<Option<Why>, AllocError>
-        requires reading { IsReading callers self.old }
-        requires form { form_of (map (λ w. w.now) words.now) ≡ Some form }
-        ensures { (before : List (List (List ℕ))) → HasRead callers before self.old → IfOk result (ReadsForm callers before (map (λ w. w.now) words.now) form self.new) }
+    /// Adds a line, unless a why about its place holds of it.
+    fn take(&mut self, alloc: Global, callers: u32, line: &Line) -> Result<Option<Why>, AllocError>
+        requires { None ≡ reader_why self.old line.now → CanAdd self.old line.now }
+        ensures { IfOk result (Takes callers line.now self.old self.new) }
     {
-        let fields = fields(alloc, words)?;
-        if let Some(why) = fields_why(callers, form, &fields) {
+        if let Some(why) = self.place_why(line) {
             return Ok(Some(why));
         }
-        if let Some(why) = self.place_why(words) {
-            return Ok(Some(why));
-        }
-        self.take(alloc, callers, form, &fields)?;
+        self.add(alloc, callers, line)?;
         Ok(None)
     }
 
-    /// Adds a line of this form.
-    fn take(
-        &mut self,
-        alloc: Global,
-        callers: u32,
-        form: Form,
-        fields: &[&[u8]],
-    ) -> Result<(), AllocError>
-        requires room { form ≡ forms.Round → self.old.begun < 4096 }
-        requires lists { length self.old.open.commands ≡ callers }
-        ensures { OnOk result ((x : line) → line_as callers form (map (λ w. w.now) fields.now) ≡ Some x → Adds callers x self.old self.new) }
+    /// Adds a line.
+    fn add(&mut self, alloc: Global, callers: u32, line: &Line) -> Result<(), AllocError>
+        requires { CanAdd self.old line.now }
+        ensures { OnOk result (Adds callers line.now self.old self.new) }
     {
-        match form {
-            Form::Round => self.begin(alloc, callers),
-            _ => match reading::start(form, fields) {
-                Some(line) => self.add_start(line),
-                None => self.take_call(callers, form, fields),
-            },
-        }
-    }
-
-    /// Adds a command of a caller.
-    fn take_call(&mut self, callers: u32, form: Form, fields: &[&[u8]]) -> Result<(), AllocError>
-        requires { length self.old.open.commands ≡ callers }
-        ensures { OnOk result ((x : line) → call_in callers form (map (λ w. w.now) fields.now) ≡ Some x → Adds callers x self.old self.new) }
-    {
-        match caller_in(callers, fields) {
-            Some(caller) => match command_behind(callers, form, fields) {
-                Some(command) => self.add_call(caller, command),
-                None => Ok(()),
-            },
-            None => Ok(()),
+        match line {
+            Line::Round => self.begin(alloc, callers),
+            Line::Start(line) => self.add_start(*line),
+            Line::Call { caller, command } => self.add_call(*caller, *command),
         }
     }
 
@@ -283,7 +167,7 @@ impl Reader {
 
     /// A command of a caller.
     fn add_call(&mut self, caller: u32, command: Command) -> Result<(), AllocError>
-        requires { caller < length self.old.open.commands }
+        requires { CanAdd self.old (call caller command) }
         ensures { OnOk result ((callers : ℕ) → Adds callers (call caller command) self.old self.new) }
     {
         note_given(&mut self.given, &command)?;
@@ -294,16 +178,13 @@ impl Reader {
 
     /// A round begins.
     fn begin(&mut self, alloc: Global, callers: u32) -> Result<(), AllocError>
-        requires { self.old.begun < 4096 }
+        requires { self.old.begun < MOST_ROUNDS }
         ensures { OnOk result (Adds callers round self.old self.new) }
     {
-        let fresh = Round {
-            lines: RoundLines::new(alloc),
-            commands: CallerLists::new(alloc, callers)?,
-        };
+        let fresh = OpenRound::new(alloc, callers)?;
         let before = mem::replace(&mut self.open, fresh);
         if self.begun > 0 {
-            self.rounds.push(before)?;
+            self.rounds.push(before.close())?;
         }
         self.begun += 1;
         self.calling = false;
@@ -311,7 +192,7 @@ impl Reader {
     }
 
     /// The rounds that were read.
-    pub fn finish(self) -> Result<Rounds, AllocError>
+    pub fn finish(self) -> Result<Items<Round>, AllocError>
         requires { IsReady self }
         ensures { IfOk result (λ rs. rs ≡ rounds_in self) }
     {
@@ -323,7 +204,7 @@ impl Reader {
             open,
         } = self;
         if begun > 0 {
-            rounds.push(open)?;
+            rounds.push(open.close())?;
         }
         Ok(rounds)
     }

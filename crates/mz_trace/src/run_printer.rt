@@ -3,20 +3,24 @@
 //! Each function but `print_run` adds the text of its name to `out`. After an error a part of that
 //! text may stand there.
 
-ghost use Rattle.std.specs.Prelude.{◌≡◌, ◌++◌, ◌∷◌, [], ℕ, List, IfOk, OnOk, string_bytes, codes, length, map};
+ghost use Rattle.std.specs.Prelude.{◌≡◌, ◌++◌, ◌∷◌, IfOk, OnOk, string_bytes, codes, map};
 ghost use Rattle.std.specs.List.{flat_map};
-ghost use Rattle.mz_trace.specs.Texts.{line_text};
+ghost use Rattle.mz_words.specs.Lines.{line_text};
 ghost use Rattle.mz_trace.specs.declared.tail.Figures.{Figures as figures};
+ghost use Rattle.mz_trace.specs.Answers.{answer_words};
 ghost use Rattle.mz_trace.specs.RunForms.{IsRun, IsTail, IsRunText};
-ghost use Rattle.mz_trace.specs.RunTexts.{outcome_lines, run_text, run_round_lines, sections_from, section_lines, start_record_lines, call_record_lines, step_words, answer_words};
+ghost use Rattle.mz_trace.specs.RunTexts.{outcome_lines, run_text, run_round_lines, sections_from, section_lines, start_record_lines, call_record_lines, step_words};
 ghost use Rattle.mz_trace.specs.TailTexts.{tail_text, listed_words, statistics_lines};
 
-use crate::answer::Answer;
-use crate::printer::lines::{
-    print_answer, print_command, print_event, print_listed, print_space, print_start,
-};
-use crate::run::{CallRecord, CallRecords, Run, RunRound, StartRecord, Step};
+use crate::answer::{Answer, write_answer};
+use crate::command::write_command;
+use crate::event::write_event;
+use crate::round::write_start;
+use crate::run::{CallRecord, Run, RunRound, StartRecord, Step};
+use crate::space::write_space;
 use crate::tail::{Figures, Listed, Statistics};
+use mz_base::Items;
+use mz_words::{Form, Word, write_sentence};
 use std::alloc::{AllocError, Global};
 
 /// The text of a run: the profile, the rounds with the sections of their callers, and `end`.
@@ -28,7 +32,7 @@ pub fn print_run(alloc: Global, run: &Run) -> Result<Vec<u8>, AllocError>
 {
     let mut out = String::new(alloc);
     out.push_str("mzone-run 1\n")?;
-    print_space(&mut out, &run.profile)?;
+    write_space(&mut out, &run.profile)?;
     print_rounds(&mut out, run.rounds.as_slice())?;
     out.push_str("end\n")?;
     Ok(out.into_bytes())
@@ -64,12 +68,12 @@ fn print_start_record(out: &mut String, outcome: &StartRecord) -> Result<(), All
     ensures { OnOk result (string_bytes out.new ≡ string_bytes out.old ++ flat_map line_text (start_record_lines outcome.now)) }
 {
     out.push_str("> ")?;
-    print_start(out, outcome.line)?;
+    write_start(out, &outcome.line)?;
     out.push_str("\n")?;
     print_outcome(out, outcome.steps.as_slice(), outcome.answer)
 }
 
-fn print_sections(out: &mut String, callers: &[CallRecords]) -> Result<(), AllocError>
+fn print_sections(out: &mut String, callers: &[Items<CallRecord>]) -> Result<(), AllocError>
     ensures { OnOk result (string_bytes out.new ≡ string_bytes out.old ++ flat_map line_text (sections_from 0 callers.now)) }
 {
     for (caller, calls) in callers.iter().enumerate() {
@@ -97,8 +101,8 @@ fn print_calls(out: &mut String, calls: &[CallRecord]) -> Result<(), AllocError>
 fn print_call_record(out: &mut String, outcome: &CallRecord) -> Result<(), AllocError>
     ensures { OnOk result (string_bytes out.new ≡ string_bytes out.old ++ flat_map line_text (call_record_lines outcome.now)) }
 {
-    out.push_str(">")?;
-    print_command(out, outcome.command)?;
+    out.push_str("> ")?;
+    write_command(out, &outcome.command)?;
     out.push_str("\n")?;
     print_outcome(out, outcome.steps.as_slice(), outcome.answer)
 }
@@ -124,16 +128,16 @@ fn print_step(out: &mut String, step: &Step) -> Result<(), AllocError>
     ensures { OnOk result (string_bytes out.new ≡ string_bytes out.old ++ line_text (step_words step.now)) }
 {
     let ticket = step.ticket;
-    write!(out, "{ticket}")?;
-    print_event(out, step.event)?;
+    write!(out, "{ticket} ")?;
+    write_event(out, &step.event)?;
     out.push_str("\n")
 }
 
 fn print_answer_line(out: &mut String, answer: Answer) -> Result<(), AllocError>
     ensures { OnOk result (string_bytes out.new ≡ string_bytes out.old ++ line_text (codes "=" ∷ answer_words answer)) }
 {
-    out.push_str("=")?;
-    print_answer(out, answer)?;
+    out.push_str("= ")?;
+    write_answer(out, &answer)?;
     out.push_str("\n")
 }
 
@@ -152,6 +156,21 @@ fn print_listing(out: &mut String, blocks: &[Listed]) -> Result<(), AllocError>
         print_listed(out, block)?;
     }
     Ok(())
+}
+
+/// A line of the listing.
+fn print_listed(out: &mut String, block: &Listed) -> Result<(), AllocError>
+    ensures { OnOk result (string_bytes out.new ≡ string_bytes out.old ++ line_text (listed_words block.now)) }
+{
+    let Listed { a, s, range, zone } = *block;
+    let words = [
+        Word::Number(a),
+        Word::Number(s),
+        Word::Range(range),
+        Word::Zone(zone),
+    ];
+    write_sentence(out, Form::Listed, &words)?;
+    out.push_str("\n")
 }
 
 fn print_statistics(out: &mut String, statistics: Statistics) -> Result<(), AllocError>

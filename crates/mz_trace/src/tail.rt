@@ -1,8 +1,8 @@
-ghost use Rattle.std.specs.Prelude.{◌≡◌, ◌++◌, ◌∷◌, [], IfOk, OnOk, OnErr};
+ghost use Rattle.std.specs.Prelude.{◌≡◌, IfOk};
 ghost use Rattle.mz_trace.specs.TailTexts.{tail_text};
 
 use crate::run_printer::print_tail;
-use mz_base::{Range, ZoneName};
+use mz_base::{Items, Range, ZoneName};
 use std::alloc::{AllocError, Global};
 use std::marker::Model;
 
@@ -19,62 +19,6 @@ pub struct Listed {
     pub zone: ZoneName,
 }
 
-/// The live blocks at the end of a run. Contracts see them as a list.
-#[derive(Drop, Debug)]
-pub struct Listing {
-    items: Vec<Listed>,
-}
-
-impl Model for Listing {
-    ghost use Rattle.std.specs.Prelude.{List};
-    ghost use Rattle.mz_trace.specs.declared.tail.Listed.{Listed};
-
-    ghost Value = { List Listed };
-
-    ghost view = { λ s. s.items.items };
-}
-
-impl Listing {
-    /// These, in this order.
-    pub fn of(items: Vec<Listed>) -> Listing
-        ensures { result ≡ items.items }
-    {
-        Listing { items }
-    }
-
-    /// No blocks.
-    pub fn new(alloc: Global) -> Listing
-        ensures { result ≡ [] }
-    {
-        Listing {
-            items: Vec::new(alloc),
-        }
-    }
-
-    /// One more block, behind the others.
-    pub fn push(&mut self, block: Listed) -> Result<(), AllocError>
-        ensures ok { OnOk result (self.new ≡ self.old ++ block ∷ []) }
-        ensures err { OnErr result (self.new ≡ self.old) }
-    {
-        self.items.push(block)?;
-        Ok(())
-    }
-
-    /// The blocks as a slice.
-    pub fn as_slice(&self) -> &[Listed]
-        ensures { result.now ≡ self.now }
-    {
-        &self.items
-    }
-
-    /// The blocks, in this order.
-    pub fn into_vec(self) -> Vec<Listed>
-        ensures { result.items ≡ self }
-    {
-        self.items
-    }
-}
-
 /// The numbers at the end of a run. The names are libmalloc's.
 #[derive(Clone, Copy, Debug, PartialEq, Eq)]
 pub struct Statistics {
@@ -88,10 +32,10 @@ pub struct Statistics {
     pub size_allocated: u64,
 }
 
-/// What stands behind a run, as values.
+/// What stands behind a run, as values: the live blocks at its end, and the statistics.
 #[derive(Drop, Debug)]
 pub struct Figures {
-    pub listing: Listing,
+    pub listing: Items<Listed>,
     pub statistics: Statistics,
 }
 

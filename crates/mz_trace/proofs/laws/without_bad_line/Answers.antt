@@ -1,5 +1,5 @@
-use Rattle.mz_trace.proofs.CompleteLemmas.{without_bad_line}
+use Rattle.mz_trace.proofs.TraceTextIsRead.{without_bad_line}
 use Rattle.mz_trace.proofs.laws.without_bad_line.Goals as goal
 
 pub returns : goal.returns
-returns c = without_bad_line
+returns c = without_bad_line c.word_laws.ensures

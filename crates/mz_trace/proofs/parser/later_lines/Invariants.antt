@@ -1,6 +1,6 @@
 use Rattle.std.proofs.Common.{◌+◌, ◌<◌, ◌^◌, length}
-use Rattle.mz_trace.specs.Faults.{cuts}
-use Rattle.mz_trace.proofs.LaterLemmas.{IsBehind}
+use Rattle.mz_words.specs.Lines.{cuts}
+use Rattle.mz_trace.proofs.LaterLines.{IsBehind}
 use Rattle.mz_trace.proofs.parser.later_lines.Given as goal
 
 abbrev pub invariant-loop-line : goal.invariant-loop-line

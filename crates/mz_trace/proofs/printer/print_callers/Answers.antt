@@ -1,5 +1,5 @@
 use Rattle.std.specs.Prelude.{string_bytes}
-use Rattle.mz_trace.proofs.PrintLemmas.{callers_more}
+use Rattle.mz_trace.proofs.PrintedLines.{callers_more}
 use Rattle.mz_trace.proofs.printer.print_callers.Goals as goal
 
 pub loop-caller-preserved : goal.loop-caller-preserved

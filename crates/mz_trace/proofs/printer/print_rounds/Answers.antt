@@ -1,5 +1,5 @@
 use Rattle.std.specs.Prelude.{string_bytes}
-use Rattle.mz_trace.proofs.PrintLemmas.{rounds_more}
+use Rattle.mz_trace.proofs.PrintedLines.{rounds_more}
 use Rattle.mz_trace.proofs.printer.print_rounds.Goals as goal
 
 pub loop-round-preserved : goal.loop-round-preserved

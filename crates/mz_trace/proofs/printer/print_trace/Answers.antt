@@ -1,5 +1,5 @@
 use Rattle.std.proofs.Common.{rules}
-use Rattle.mz_trace.proofs.NormalLemmas.{printed_is_text}
+use Rattle.mz_trace.proofs.NormalFormIsText.{printed_is_text}
 use Rattle.mz_trace.proofs.printer.print_trace.Goals as goal
 
 pub returns-clause-text : goal.returns-clause-text

@@ -1,6 +1,6 @@
 use Rattle.std.proofs.Common.{◌≡◌, ◌++◌, string_bytes, take}
 use Rattle.std.specs.List.{flat_map}
-use Rattle.mz_trace.specs.Texts.{line_text}
+use Rattle.mz_words.specs.Lines.{line_text}
 use Rattle.mz_trace.specs.RunTexts.{run_round_lines}
 use Rattle.mz_trace.proofs.run_printer.print_rounds.Given as goal
 

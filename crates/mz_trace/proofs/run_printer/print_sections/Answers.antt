@@ -1,8 +1,8 @@
 use Rattle.std.proofs.Common.{string_bytes, ap, ◌∙◌, ◌++◌}
 use Rattle.std.specs.List.{flat_map}
-use Rattle.mz_trace.specs.Texts.{line_text}
+use Rattle.mz_words.specs.Lines.{line_text}
 use Rattle.mz_trace.specs.RunTexts.{section_lines}
-use Rattle.mz_trace.proofs.SectionLemmas.{appended_section}
+use Rattle.mz_trace.proofs.PrintedSections.{appended_section}
 use Rattle.mz_trace.proofs.run_printer.print_sections.Goals as goal
 
 pub loop-caller-preserved : goal.loop-caller-preserved

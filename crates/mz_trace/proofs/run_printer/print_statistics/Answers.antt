@@ -4,9 +4,9 @@ use Rattle.std.specs.Fmt.{decimal}
 use Rattle.std.proofs.lemmas.List.{append_assoc, append-nil}
 use Rattle.std.proofs.lemmas.Result.{on_ok_weaker}
 use Rattle.mz_trace.specs.declared.tail.Statistics.{Statistics}
-use Rattle.mz_trace.specs.Texts.{line_text}
+use Rattle.mz_words.specs.Lines.{line_text}
 use Rattle.mz_trace.specs.TailTexts.{statistics_lines}
-use Rattle.mz_trace.proofs.RunPrintLemmas.{appended, appended_last}
+use Rattle.mz_trace.proofs.Appended.{appended, appended_last}
 use Rattle.mz_trace.proofs.run_printer.print_statistics.Goals as goal
 
 -- each of the four lines

@@ -1,7 +1,6 @@
 use Rattle.std.proofs.Common.{◌≡◌, map, sym, ◌∙◌}
-use Rattle.mz_trace.specs.Faults.{words_of}
-use Rattle.mz_trace.specs.RawLines.{cut_of}
-use Rattle.mz_trace.proofs.LaterLemmas.{reads_cut, if_ok}
+use Rattle.mz_words.specs.Lines.{words_of, cut_of}
+use Rattle.mz_trace.proofs.LaterLines.{reads_cut, if_ok}
 use Rattle.mz_trace.proofs.reader.Reader.read_line.Goals as goal
 
 pub returns : goal.returns

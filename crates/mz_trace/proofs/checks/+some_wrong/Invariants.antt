@@ -1,5 +1,0 @@
-use Rattle.std.proofs.Common.{length}
-use Rattle.mz_trace.proofs.checks.+some_wrong.Given as goal
-
-abbrev pub decreases-some_wrong : goal.decreases-some_wrong
-decreases-some_wrong l = length l.places.now

@@ -1,5 +1,0 @@
-use Rattle.mz_trace.proofs.FirstBadLine.{first_is_one}
-use Rattle.mz_trace.proofs.laws.one_first_bad_line.Goals as goal
-
-pub returns : goal.returns
-returns c = first_is_one

@@ -1,0 +1,27 @@
+//! From the bytes of a printed run to the run that they are, with the listing and the statistics behind
+//! it.
+//!
+//! What the layers above can rely on: `parse_run` answers a run and a tail exactly where the bytes are
+//! their text, and then those; else it tells the first line that can't stand where it stands. Beside
+//! that it may only answer that memory is short. Printed bytes fix the run (`laws::one_run`).
+//!
+//! - `entries`, `outcomes`, `listings`: what the lines of a run have beside commands, from sentences.
+//! - `reader`: the rounds so far, and what one more line adds.
+//! - `parser`: the whole text.
+//! - `fault`: why bytes are no printed run.
+//! - `laws`: what the definitions mean, as contracts of functions that do nothing.
+#![tactic(auto)]
+
+mod entries;
+pub mod fault;
+pub mod laws;
+mod listings;
+mod outcomes;
+mod parser;
+mod reader;
+
+pub use fault::RunFault;
+pub use parser::parse_run;
+
+#[cfg(test)]
+mod tests;

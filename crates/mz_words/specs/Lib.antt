@@ -1,0 +1,11 @@
+pub mod Numbers
+pub mod Names
+pub mod Places
+pub mod Hex
+pub mod Ranges
+pub mod Lines
+pub mod Kinds
+pub mod Table
+pub mod Sentences
+pub mod Flaws
+pub mod Laws

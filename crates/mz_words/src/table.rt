@@ -1,0 +1,233 @@
+//! The table of forms: a line for each. Lines of a trace come first, then those of a printed run.
+
+ghost use Rattle.std.specs.Prelude.{◌≡◌};
+ghost use Rattle.mz_words.specs.Table.{form_word, kinds_of, form_among};
+
+use crate::kind::Kind;
+
+/// The form of a line. The word of a form is unique only within its family.
+#[derive(Clone, Copy, Debug, PartialEq, Eq)]
+pub enum Form {
+    Round,
+    Zone,
+    Destroy,
+    SizeAt,
+    Where,
+    Malloc,
+    Calloc,
+    Valloc,
+    Memalign,
+    Realloc,
+    Free,
+    FreeAt,
+    ZoneFree,
+    SizedFree,
+    Size,
+    Fill,
+    Show,
+    Link,
+    Give,
+    Batch,
+    Unbatch,
+    Use,
+    Take,
+    Back,
+    Move,
+    New,
+    End,
+    Resize,
+    Full,
+    Dry,
+    No,
+    Open,
+    Shut,
+    Held,
+    NoZone,
+    Overflow,
+    BadAlign,
+    NotHeld,
+    WrongSize,
+    OutOfRange,
+    NameTaken,
+    TooMany,
+    IsDefault,
+    HasLive,
+    Null,
+    Nowhere,
+    Done,
+    NotLive,
+    Block,
+    SizeIs,
+    Bytes,
+    Got,
+    Freed,
+    InZone,
+    Listed,
+}
+
+/// The forms of the lines of a round's start.
+pub const ROUND_LINES: [Form; 5] = [
+    Form::Round,
+    Form::Zone,
+    Form::Destroy,
+    Form::SizeAt,
+    Form::Where,
+];
+
+/// The forms of commands.
+pub const COMMANDS: [Form; 17] = [
+    Form::Malloc,
+    Form::Calloc,
+    Form::Valloc,
+    Form::Memalign,
+    Form::Realloc,
+    Form::Free,
+    Form::FreeAt,
+    Form::ZoneFree,
+    Form::SizedFree,
+    Form::Size,
+    Form::Fill,
+    Form::Show,
+    Form::Link,
+    Form::Give,
+    Form::Batch,
+    Form::Unbatch,
+    Form::Use,
+];
+
+/// The forms of events.
+pub const EVENTS: [Form; 11] = [
+    Form::Take,
+    Form::Back,
+    Form::Move,
+    Form::New,
+    Form::End,
+    Form::Resize,
+    Form::Full,
+    Form::Dry,
+    Form::No,
+    Form::Open,
+    Form::Shut,
+];
+
+/// The forms of answers.
+pub const ANSWERS: [Form; 21] = [
+    Form::Held,
+    Form::NoZone,
+    Form::Overflow,
+    Form::BadAlign,
+    Form::NotHeld,
+    Form::WrongSize,
+    Form::OutOfRange,
+    Form::NameTaken,
+    Form::TooMany,
+    Form::IsDefault,
+    Form::HasLive,
+    Form::Null,
+    Form::Nowhere,
+    Form::Done,
+    Form::NotLive,
+    Form::Block,
+    Form::SizeIs,
+    Form::Bytes,
+    Form::Got,
+    Form::Freed,
+    Form::InZone,
+];
+
+/// The form of a line of the listing.
+pub const LISTING: [Form; 1] = [Form::Listed];
+
+/// The word of a form, and the kinds of the words behind it.
+#[derive(Clone, Copy, Debug)]
+pub struct Row {
+    pub word: &'static str,
+    pub kinds: &'static [Kind],
+}
+
+fn of(word: &'static str, kinds: &'static [Kind]) -> Row
+    ensures word { result.word.now ≡ word.now }
+    ensures kinds { result.kinds.now ≡ kinds.now }
+{
+    Row { word, kinds }
+}
+
+impl Form {
+    /// The form's row of the table.
+    pub fn row(self) -> Row
+        ensures word { result.word.now ≡ form_word self }
+        ensures kinds { result.kinds.now ≡ kinds_of self }
+    {
+        use Kind::{
+            Base, BatchCount, Byte, Bytes, Caller, Given, Name, New, Number, Old, Place, Range,
+            ShowCount, Small, Zone,
+        };
+        match self {
+            Form::Round => of("round", &[]),
+            Form::Zone => of("zone", &[Zone]),
+            Form::Destroy => of("destroy", &[Zone]),
+            Form::SizeAt => of("size", &[Zone, Number]),
+            Form::Where => of("where", &[Number]),
+            Form::Malloc => of("malloc", &[Base, Number]),
+            Form::Calloc => of("calloc", &[Base, Number, Number]),
+            Form::Valloc => of("valloc", &[Base, Number]),
+            Form::Memalign => of("memalign", &[Base, Number, Number]),
+            Form::Realloc => of("realloc", &[Old, New, Number]),
+            Form::Free => of("free", &[Name]),
+            Form::FreeAt => of("freeat", &[Name, Number]),
+            Form::ZoneFree => of("zfree", &[Zone, Name]),
+            Form::SizedFree => of("sfree", &[Name, Number]),
+            Form::Size => of("size", &[Name]),
+            Form::Fill => of("fill", &[Name, Byte]),
+            Form::Show => of("show", &[Name, Number, ShowCount]),
+            Form::Link => of("link", &[Name, Number, Name]),
+            Form::Give => of("give", &[Name, Caller, Given]),
+            Form::Batch => of("batch", &[Base, BatchCount, Number]),
+            Form::Unbatch => of("unbatch", &[Base]),
+            Form::Use => of("use", &[Zone]),
+            Form::Take => of("take", &[Place, Number, Number]),
+            Form::Back => of("back", &[Place, Number, Number]),
+            Form::Move => of("move", &[Number, Place, Place]),
+            Form::New => of("new", &[Place, Number, Number, Number]),
+            Form::End => of("end", &[Place, Number, Number]),
+            Form::Resize => of("size", &[Place, Number, Number, Number]),
+            Form::Full => of("full", &[Place, Number, Number]),
+            Form::Dry => of("dry", &[Small, Number, Number]),
+            Form::No => of("no", &[Place, Small, Number, Number]),
+            Form::Open => of("open", &[Small]),
+            Form::Shut => of("shut", &[Small]),
+            Form::Held => of("held", &[]),
+            Form::NoZone => of("no-zone", &[]),
+            Form::Overflow => of("overflow", &[]),
+            Form::BadAlign => of("bad-align", &[]),
+            Form::NotHeld => of("not-held", &[]),
+            Form::WrongSize => of("wrong-size", &[Number]),
+            Form::OutOfRange => of("out-of-range", &[]),
+            Form::NameTaken => of("name-taken", &[]),
+            Form::TooMany => of("too-many", &[]),
+            Form::IsDefault => of("is-default", &[]),
+            Form::HasLive => of("has-live", &[Number]),
+            Form::Null => of("null", &[]),
+            Form::Nowhere => of("none", &[]),
+            Form::Done => of("ok", &[]),
+            Form::NotLive => of("not-live", &[]),
+            Form::Block => of("block", &[Number, Number]),
+            Form::SizeIs => of("size", &[Number]),
+            Form::Bytes => of("bytes", &[Bytes]),
+            Form::Got => of("got", &[Number]),
+            Form::Freed => of("freed", &[Number]),
+            Form::InZone => of("zone", &[Zone]),
+            Form::Listed => of("block", &[Number, Number, Range, Zone]),
+        }
+    }
+}
+
+/// The form with this word.
+pub fn form_among(forms: &[Form], word: &[u8]) -> Option<Form>
+    ensures { result ≡ form_among forms.now word.now }
+{
+    forms
+        .iter()
+        .copied()
+        .find(|form| word == form.row().word.as_bytes())
+}

@@ -5,8 +5,7 @@ use Rattle.std.specs.List.{list_all}
 use Rattle.std.proofs.lemmas.Bool.{and_parts, and_from, and_left, or_cases, or_left, or_right, cases_Bool, false≢true, leb-true, le-leb, ltb-true, ltb-false, eqb-true, eq-eqb, ne_eqb, cond-true, cond-false, cond_both}
 use Rattle.std.proofs.lemmas.List.Sums.{sum_by-cons}
 use Rattle.mz_base.specs.Space.{Block, block_end, blocks_apart, same_block}
-use Rattle.mz_history.specs.State.{insert_by, has_block}
-use Rattle.mz_history.specs.Effect.{add_block, drop_block}
+use Rattle.mz_base.specs.Lists.{insert_by, has_block, add_block, drop_block}
 use Rattle.mz_run.specs.Blocks.{region_end, IsQuanta, IsTiled}
 
 -- blocks that are tested the same are one

@@ -8,7 +8,8 @@ use Rattle.mz_trace.specs.declared.command.Command.{Command}
 use Rattle.mz_trace.specs.declared.round.Round.{Round}
 use Rattle.mz_trace.specs.declared.round.RoundLine.{RoundLine}
 use Rattle.mz_trace.specs.declared.trace.Trace.{Trace}
-use Rattle.mz_trace.specs.Lines.{Line, start}
+use Rattle.mz_trace.specs.declared.line.Line.{Line}
+use Rattle.mz_trace.specs.declared.line.Line.TheVariants as line
 use Rattle.mz_trace.specs.Rounds.{HaveLists, call_line, calls_from, round_lines, lines_of_rounds}
 use Rattle.mz_run.specs.Built.{is_built_space, is_built_command, is_built_line, is_built_round, IsBuilt}
 
@@ -20,7 +21,7 @@ all_parts p (x ∷ xs) ys all =
     let rest = all_parts p xs ys first.1 in
     (and_from (p x) (list_all p xs) first.0 rest.0, rest.1)
 
-no_starts : (xs : List RoundLine) → list_all is_built_line (map start xs) ≡ true → (length xs == 0) ≡ true
+no_starts : (xs : List RoundLine) → list_all is_built_line (map line.Start xs) ≡ true → (length xs == 0) ≡ true
 no_starts [] all = refl
 no_starts (x ∷ xs) all = absurd (false≢true all)
 
@@ -44,7 +45,7 @@ built_rounds : (rs : List Round) → HaveLists 1 rs → list_all is_built_line (
 built_rounds [] lists all = refl
 built_rounds (r ∷ rs) lists all =
     let parts = all_parts is_built_line (round_lines r) (lines_of_rounds rs) all in
-    let inner = all_parts is_built_line (map start r.lines) (map call_line (calls_from 0 r.commands)) parts.0 in
+    let inner = all_parts is_built_line (map line.Start r.lines) (map call_line (calls_from 0 r.commands)) parts.0 in
     let here : is_built_round r ≡ true = assoc_and (length r.lines == 0) (length r.commands == 1) (list_all (list_all is_built_command) r.commands) (no_starts r.lines inner.0) (one_list r.commands lists.0 inner.1) in
     and_from (is_built_round r) (list_all is_built_round rs) here (built_rounds rs lists.1 parts.1)
 

@@ -8,10 +8,13 @@ use Rattle.std.proofs.lemmas.List.Folds.{list_all-append}
 use Rattle.mz_base.specs.declared.profile.Profile.{Profile}
 use Rattle.mz_trace.specs.declared.round.Round.{Round}
 use Rattle.mz_trace.specs.declared.trace.Trace.{Trace}
-use Rattle.mz_trace.specs.Lines.{Line, round, start, line_words, line_fits}
+use Rattle.mz_trace.specs.declared.line.Line.{Line}
+use Rattle.mz_trace.specs.declared.line.Line.TheVariants as line
+use Rattle.mz_trace.specs.Lines.{line_words, line_fits}
 use Rattle.mz_trace.specs.Rounds.{Call, call_line, commands_by, lists_from, calls_from, IsRound, AreRounds, none, more, round_lines, lines_of_rounds, HaveLists}
-use Rattle.mz_trace.specs.Texts.{first_words, space_words, line_text, lines_text, IsTraceText, lines_of}
-use Rattle.mz_trace.proofs.CompleteLemmas.{one_trace}
+use Rattle.mz_trace.specs.Texts.{first_words, lines_text, IsTraceText, lines_of}
+use Rattle.mz_trace.specs.Spaces.{space_words}
+use Rattle.mz_words.specs.Lines.{line_text}
 use Rattle.mz_run.specs.declared.built.Unbuilt.{Unbuilt}
 use Rattle.mz_run.specs.Built.{is_built_space, is_built_line, unbuilt_line, IsBuilt, HasUnbuilt}
 use Rattle.mz_run.specs.Passing.{passed}
@@ -31,11 +34,11 @@ own_calls (c ∷ cs) h =
 -- a round of one caller is in normal form
 own_round : (lines : List Line) (r : Round) → IsRound 1 lines r → list_all (line_fits 1) lines ≡ true → lines ≡ round_lines r
 own_round lines r is fit =
-    let parts : list_all (line_fits 1) (map start r.lines ++ map call_line is.calls) ≡ true = subst (λ (ls : List Line). list_all (line_fits 1) ls ≡ true) is.parts fit in
-    let calls = (and_parts _ _ (sym (list_all-append (line_fits 1) (map start r.lines) (map call_line is.calls)) ∙ parts)).1 in
+    let parts : list_all (line_fits 1) (map line.Start r.lines ++ map call_line is.calls) ≡ true = subst (λ (ls : List Line). list_all (line_fits 1) ls ≡ true) is.parts fit in
+    let calls = (and_parts _ _ (sym (list_all-append (line_fits 1) (map line.Start r.lines) (map call_line is.calls)) ∙ parts)).1 in
     let own : calls_from 0 r.commands ≡ is.calls =
     ap (calls_from 0) is.lists ∙ append-nil (map (λ c. (0, c)) (commands_by 0 is.calls)) ∙ own_calls is.calls calls in
-    is.parts ∙ ap (λ cs. round ∷ (map start r.lines ++ map call_line cs)) (sym own)
+    is.parts ∙ ap (λ cs. line.Round ∷ (map line.Start r.lines ++ map call_line cs)) (sym own)
 
 -- one more round
 more_lines : (rs : List Round) (r : Round) → lines_of_rounds (rs ++ r ∷ []) ≡ lines_of_rounds rs ++ round_lines r
@@ -135,13 +138,14 @@ text_built bytes t text built =
       lists = have_lists t.profile.callers text.lines t.rounds text.rounds;
     }
 
--- it is the same in each reading of the bytes
-unbuilt_of : (bytes : List ℕ) (t u : Trace) (text : IsTraceText bytes t) (other : IsTraceText bytes u) → unbuilt_line t.profile text.lines ≡ unbuilt_line u.profile other.lines
-unbuilt_of bytes t u text other =
-    same_unbuilt bytes t text ∙ ap (λ x. unbuilt_line x.profile (lines_of x)) (one_trace bytes t u text other) ∙ sym (same_unbuilt bytes u other)
+-- As a text is one of at most one trace, that line is the same in each reading of the bytes.
+module _ (one_trace : (bytes : List ℕ) (t u : Trace) → IsTraceText bytes t → IsTraceText bytes u → t ≡ u) where
+  unbuilt_of : (bytes : List ℕ) (t u : Trace) (text : IsTraceText bytes t) (other : IsTraceText bytes u) → unbuilt_line t.profile text.lines ≡ unbuilt_line u.profile other.lines
+  unbuilt_of bytes t u text other =
+      same_unbuilt bytes t text ∙ ap (λ x. unbuilt_line x.profile (lines_of x)) (one_trace bytes t u text other) ∙ sym (same_unbuilt bytes u other)
 
-pub unbuilt_is_one : (bytes : List ℕ) (m n : ℕ) → HasUnbuilt bytes m → HasUnbuilt bytes n → m ≡ n
-unbuilt_is_one bytes m n h k = same_Some m n (sym h.first ∙ unbuilt_of bytes h.trace k.trace h.text k.text ∙ k.first)
+  pub unbuilt_is_one : (bytes : List ℕ) (m n : ℕ) → HasUnbuilt bytes m → HasUnbuilt bytes n → m ≡ n
+  unbuilt_is_one bytes m n h k = same_Some m n (sym h.first ∙ unbuilt_of bytes h.trace k.trace h.text k.text ∙ k.first)
 
-pub never_run : (bytes output : List ℕ) (line : ℕ) → HasUnbuilt bytes line → IsRunOutput bytes output → ⊥
-never_run bytes output line h run = none-some line (sym run.built ∙ unbuilt_of bytes run.trace h.trace run.text h.text ∙ h.first)
+  pub never_run : (bytes output : List ℕ) (line : ℕ) → HasUnbuilt bytes line → IsRunOutput bytes output → ⊥
+  never_run bytes output line h run = none-some line (sym run.built ∙ unbuilt_of bytes run.trace h.trace run.text h.text ∙ h.first)

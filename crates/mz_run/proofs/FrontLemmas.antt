@@ -5,17 +5,13 @@ use Rattle.std.specs.List.{list_any, list_all}
 use Rattle.std.proofs.lemmas.Bool.{and_parts, and_from, or_cases, or_left, or_right, or_from, leb-true, le-leb, eq-eqb, false_from_ne_true}
 use Rattle.std.proofs.lemmas.List.{drop_more, drop_all}
 use Rattle.mz_base.specs.Space.{Block, block_at, block_end, blocks_apart, least_multiple}
-use Rattle.mz_base.proofs.SpaceLemmas.{least_multiple-above, least_multiple-least}
-use Rattle.mz_history.specs.Room.{lies_in, has_room_from, any_has_room}
+use Rattle.mz_base.specs.Room.{lies_in, has_room_from, any_has_room}
 use Rattle.mz_run.specs.Blocks.{the_region, region_end, IsQuanta, IsTiled, IsFreeFront, end_from}
 use Rattle.mz_run.proofs.BlocksLemmas.{apart_below, apart_above, tiled-all, tiled-end}
 
 -- a multiple of 16 is the least at or above itself
 multiple-itself : (x : ℕ) → x % 16 ≡ 0 → least_multiple 16 x ≡ x
-multiple-itself x multiple =
-    let above = least_multiple-above 16 x (omega arith) in
-    let least = least_multiple-least 16 x x (omega arith) multiple (omega arith) in
-    omega arith
+multiple-itself x multiple = omega arith
 
 -- a block of whole quanta ends at a multiple of 16
 end-multiple : (b : Block) → IsQuanta b → block_end b % 16 ≡ 0

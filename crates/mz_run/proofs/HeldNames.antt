@@ -6,9 +6,9 @@ use Rattle.std.specs.Fmt.{decimal}
 use Rattle.std.proofs.lemmas.Bool.{false≢true}
 use Rattle.mz_base.specs.Names.{is_base_name, is_letter, is_letter_or_digit}
 use Rattle.mz_base.specs.Space.{Block}
-use Rattle.mz_trace.specs.declared.name.Name.{Name}
-use Rattle.mz_trace.specs.declared.name.Name.TheVariants.{Base, Batch, Given}
-use Rattle.mz_trace.specs.Names.{name_word}
+use Rattle.mz_words.specs.declared.name.Name.{Name}
+use Rattle.mz_words.specs.declared.name.Name.TheVariants.{Base, Batch, Given}
+use Rattle.mz_words.specs.Names.{name_word}
 use Rattle.mz_run.specs.declared.session.Session.{Session}
 use Rattle.mz_run.specs.NamesMap.{block_of}
 use Rattle.mz_run.specs.Session.{IsSound}

@@ -10,10 +10,12 @@ use Rattle.mz_base.specs.Space.{Block, block_at, block_end, blocks_apart}
 use Rattle.mz_history.specs.declared.event.Event.TheVariants.{Take, New, End, Full, Dry}
 use Rattle.mz_history.specs.declared.entry.Entry.{Entry}
 use Rattle.mz_history.specs.Places.{Spot}
-use Rattle.mz_history.specs.State.{Kept, Deed, Value, State, nothing_kept, live_size, has_block}
-use Rattle.mz_history.specs.Room.{any_has_room, has_free}
+use Rattle.mz_history.specs.State.{Kept, Deed, Value, State, nothing_kept, live_size}
+use Rattle.mz_base.specs.Lists.{has_block, add_block, drop_block}
+use Rattle.mz_base.specs.Room.{any_has_room, has_free}
 use Rattle.mz_history.specs.Rules.{Fits, is_placed_in_magazine}
-use Rattle.mz_history.specs.Effect.{add_block, drop_block, still_freed, after}
+use Rattle.mz_history.specs.Effect.{after}
+use Rattle.mz_history.specs.Changes.{still_freed}
 use Rattle.mz_history.specs.History.{IsLawful, AreLawful, after_all}
 use Rattle.mz_run.specs.Blocks.{the_region, region_end, IsQuanta, IsTiled}
 use Rattle.mz_run.specs.Session.{the_magazine, the_depot, bytes_in}

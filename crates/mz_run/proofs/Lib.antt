@@ -21,8 +21,3 @@ pub mod BuiltTexts
 pub mod InputLemmas
 pub mod TopLemmas
 pub mod ReplyLemmas
-pub mod ServedTests
-pub mod UndisturbedTest
-pub mod ResizedTests
-pub mod OrderTests
-pub mod CrossingRun

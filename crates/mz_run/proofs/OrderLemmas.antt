@@ -5,7 +5,8 @@ use Rattle.std.proofs.lemmas.List.Elements.{Contains-append_cases, Contains-push
 use Rattle.std.proofs.lemmas.Bool.{lt-ltb, le-ltb}
 use Rattle.mz_base.specs.declared.profile.Profile.{Profile}
 use Rattle.mz_history.specs.declared.entry.Entry.{Entry}
-use Rattle.mz_history.specs.State.{State, opening, insert_by}
+use Rattle.mz_history.specs.State.{State, opening}
+use Rattle.mz_base.specs.Lists.{insert_by}
 use Rattle.mz_history.specs.History.{AreLawful, after_all, after_entry, by_ticket}
 use Rattle.mz_run.specs.Moments.{state_before}
 use Rattle.mz_run.specs.Entries.{is_rising, IsBefore}

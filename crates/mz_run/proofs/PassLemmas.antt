@@ -7,7 +7,8 @@ use Rattle.std.proofs.lemmas.Iterator.Adapters.{position_from-zero}
 use Rattle.mz_trace.specs.declared.command.Command.{Command}
 use Rattle.mz_trace.specs.declared.round.Round.{Round}
 use Rattle.mz_trace.specs.declared.round.RoundLine.{RoundLine}
-use Rattle.mz_trace.specs.Lines.{Line, start, call}
+use Rattle.mz_trace.specs.declared.line.Line.{Line}
+use Rattle.mz_trace.specs.declared.line.Line.TheVariants as line
 use Rattle.mz_trace.specs.Rounds.{call_line, calls_from, round_lines, lines_of_rounds}
 use Rattle.mz_run.specs.declared.built.Unbuilt.{Unbuilt}
 use Rattle.mz_run.specs.Built.{is_built_line}
@@ -60,18 +61,18 @@ stop_is_position n xs =
 
 -- a line at the start of a round isn't built
 pub stopped_start :
-    (n : ℕ) (starts : List RoundLine) (ls : List Line) → (length starts == 0) ≡ false → passed n (map start starts ++ ls) ≡ Err (record { line = n })
+    (n : ℕ) (starts : List RoundLine) (ls : List Line) → (length starts == 0) ≡ false → passed n (map line.Start starts ++ ls) ≡ Err (record { line = n })
 stopped_start n [] ls some = cc
 stopped_start n (x ∷ starts) ls some = refl
 
 -- commands of one caller
-pub caller_lines : (caller : ℕ) (cs : List Command) → map call_line (map (λ c. (caller, c)) cs) ≡ map (call caller) cs
+pub caller_lines : (caller : ℕ) (cs : List Command) → map call_line (map (λ c. (caller, c)) cs) ≡ map (line.Call caller) cs
 caller_lines caller [] = refl
-caller_lines caller (c ∷ cs) = ap (λ ls. call caller c ∷ ls) (caller_lines caller cs)
+caller_lines caller (c ∷ cs) = ap (λ ls. line.Call caller c ∷ ls) (caller_lines caller cs)
 
 -- the lines of the lists of callers from one on
 pub list_lines : (caller : ℕ) (cs : List Command) (lists : List (List Command)) →
-    map call_line (calls_from caller (cs ∷ lists)) ≡ map (call caller) cs ++ map call_line (calls_from (caller + 1) lists)
+    map call_line (calls_from caller (cs ∷ lists)) ≡ map (line.Call caller) cs ++ map call_line (calls_from (caller + 1) lists)
 list_lines caller cs lists =
     map-append call_line (map (λ c. (caller, c)) cs) (calls_from (caller + 1) lists)
     ∙ ap (λ ls. ls ++ map call_line (calls_from (caller + 1) lists)) (caller_lines caller cs)
@@ -92,25 +93,25 @@ lists_count lists i cs below is =
 
 lists_lines :
     (lists : List (List Command)) (i : ℕ) (cs : List Command) → i < length lists → cs ≡ get_or lists i cs
-    → map call_line (calls_from i (drop i lists)) ≡ map (call i) cs ++ map call_line (calls_from (i + 1) (drop (i + 1) lists))
+    → map call_line (calls_from i (drop i lists)) ≡ map (line.Call i) cs ++ map call_line (calls_from (i + 1) (drop (i + 1) lists))
 lists_lines lists i cs below is =
     ap (λ ls. map call_line (calls_from i ls)) (drop_more lists i cs below ∙ ap (λ c. c ∷ drop (i + 1) lists) (sym is))
     ∙ list_lines i cs (drop (i + 1) lists)
 
 pub lists_passed :
     (lists : List (List Command)) (i n m : ℕ) (cs : List Command) (all : Result ℕ Unbuilt) → i < length lists → cs ≡ get_or lists i cs
-    → all ≡ passed n (map call_line (calls_from i (drop i lists))) → passed n (map (call i) cs) ≡ Ok m
+    → all ≡ passed n (map call_line (calls_from i (drop i lists))) → passed n (map (line.Call i) cs) ≡ Ok m
     → all ≡ passed m (map call_line (calls_from (i + 1) (drop (i + 1) lists)))
 lists_passed lists i n m cs all below is so_far here =
     so_far ∙ ap (passed n) (lists_lines lists i cs below is)
-    ∙ passed_front n m (map (call i) cs) (map call_line (calls_from (i + 1) (drop (i + 1) lists))) here
+    ∙ passed_front n m (map (line.Call i) cs) (map call_line (calls_from (i + 1) (drop (i + 1) lists))) here
 
 pub lists_stopped :
     (lists : List (List Command)) (i n : ℕ) (u : Unbuilt) (cs : List Command) (all : Result ℕ Unbuilt) → i < length lists → cs ≡ get_or lists i cs
-    → all ≡ passed n (map call_line (calls_from i (drop i lists))) → passed n (map (call i) cs) ≡ Err u → all ≡ Err u
+    → all ≡ passed n (map call_line (calls_from i (drop i lists))) → passed n (map (line.Call i) cs) ≡ Err u → all ≡ Err u
 lists_stopped lists i n u cs all below is so_far here =
     so_far ∙ ap (passed n) (lists_lines lists i cs below is)
-    ∙ stopped_front n u (map (call i) cs) (map call_line (calls_from (i + 1) (drop (i + 1) lists))) here
+    ∙ stopped_front n u (map (line.Call i) cs) (map call_line (calls_from (i + 1) (drop (i + 1) lists))) here
 
 rounds_lines :
     (rs : List Round) (i : ℕ) (r : Round) → i < length rs → r ≡ get_or rs i r

@@ -5,8 +5,7 @@ use Rattle.std.specs.List.{list_all}
 use Rattle.std.specs.List.Sorted.{IsNonDecreasingBy, IsPartitionPoint}
 use Rattle.std.proofs.lemmas.Bool.{and_parts, or_cases, false≢true, ltb-true, ltb-false, lt-ltb, le-ltb, cond-true, cond-false}
 use Rattle.mz_base.specs.Space.{Block, block_end, blocks_apart, same_block}
-use Rattle.mz_history.specs.State.{insert_by, has_block}
-use Rattle.mz_history.specs.Effect.{add_block, drop_block}
+use Rattle.mz_base.specs.Lists.{insert_by, has_block, add_block, drop_block}
 use Rattle.mz_run.specs.Blocks.{region_end, IsQuanta, IsTiled, IsPlaceOf, end_from}
 use Rattle.mz_run.proofs.BlocksLemmas.{blocks_apart-comm, apart_orders, tiled-add, tiled-drop, tiled-member, same_block-true, drop-first, drop-later}
 

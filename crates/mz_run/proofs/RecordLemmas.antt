@@ -3,22 +3,23 @@ use Rattle.std.proofs.Common.{◌≡◌, ℕ, ◌+◌, ◌≤◌, List, [], ◌�
 use Rattle.std.specs.Prelude.{map, Contains, MatchOption, IsSome}
 use Rattle.std.proofs.lemmas.Bool.{false≢true}
 use Rattle.mz_base.specs.declared.profile.Profile.{Profile}
+use Rattle.mz_base.specs.declared.range.Range.{Range}
 use Rattle.mz_base.specs.Sizes.{good_size_of}
 use Rattle.mz_base.specs.Space.{Block, block_at}
 use Rattle.mz_history.specs.declared.place.Place.TheVariants.{Pages, Large}
 use Rattle.mz_history.specs.declared.event.Event.TheVariants.{Take, New, End, Full, Dry}
 use Rattle.mz_history.specs.declared.entry.Entry.{Entry}
-use Rattle.mz_history.specs.Places.{spot_of, depot_of}
+use Rattle.mz_history.specs.Places.{spot_of}
 use Rattle.mz_history.specs.State.{State, opening, look_up, value_at}
 use Rattle.mz_history.specs.Effect.{touched}
 use Rattle.mz_history.specs.History.{after_all, after_entry}
 use Rattle.mz_trace.specs.declared.run.CallRecord.{CallRecord}
 use Rattle.mz_run.specs.declared.session.Session.{Session}
-use Rattle.mz_trace.specs.Names.{name_word}
+use Rattle.mz_words.specs.Names.{name_word}
 use Rattle.mz_run.specs.Names.{Holding, held_at}
 use Rattle.mz_run.specs.NamesMap.{block_of}
 use Rattle.mz_run.specs.Moments.{state_before, duty_left, first_some}
-use Rattle.mz_run.specs.Fitting.{IsUndisturbed, by_magazine, by_fresh_region, null_in_range, magazine_for, region_pages, events}
+use Rattle.mz_run.specs.Fitting.{IsUndisturbed, by_magazine, by_fresh_region, null_in_range, Regional, regional_in, regional_for}
 use Rattle.mz_run.specs.Entries.{entries_of_call}
 use Rattle.mz_run.specs.LawfulRun.{request_by, FitsRecord}
 use Rattle.mz_run.specs.Session.{the_magazine, the_depot, IsSound, Turn, refused_held, served_in_region, served_in_fresh_region, not_served, refused_not_held, dropped}
@@ -98,11 +99,11 @@ module _ (gen : ℕ) (v : Session) (sound : IsSound v) (few : v.pages ≤ 64) (h
   abbrev p : Profile
   p = space_of v.pages gen
 
-  magazine_of_tiny : (n : ℕ) → n ≤ 1008 → magazine_for p (request_by 0 n) ≡ the_magazine
-  magazine_of_tiny n small = let tiny = tiny_route n small in rw (tiny, magazine_for) refl
+  abbrev tiny_regions : Regional
+  tiny_regions = record { magazine = the_magazine; pages = 64 }
 
-  region_of_tiny : (n : ℕ) → n ≤ 1008 → region_pages (request_by 0 n) ≡ 64
-  region_of_tiny n small = let tiny = tiny_route n small in rw (tiny, region_pages) refl
+  regional_of_tiny : (n : ℕ) → n ≤ 1008 → regional_for p (request_by 0 n) ≡ Some tiny_regions
+  regional_of_tiny n small = ap (λ (r : Range). regional_in p (request_by 0 n) r) (tiny_route n small)
 
   undisturbed : (es : List Entry) → ((x : Entry) → Contains h x → x.caller ≡ 0) → IsUndisturbed p h 0 es
   undisturbed es mine e d x j of_request of_request_too is_dry of_history after before touched_here touched_there = mine x of_history
@@ -115,35 +116,24 @@ module _ (gen : ℕ) (v : Session) (sound : IsSound v) (few : v.pages ≤ 64) (h
       (match_some (held_at held name) _ _ (subst (λ (o : Option Block). IsSome o) (sym (agree name)) some) (λ b. (refl, refl)))
   record_fits d u s st (served_in_region name n a names base free small taken place d_is named u_is) amid starts agree =
       let b = block_at a (good_size_of n) in
-      let event : events (new_entries v.tickets b) ≡ New (magazine_for p (request_by 0 n)) a (good_size_of n) 16 ∷ [] =
-      ap (λ k. New k a (good_size_of n) 16 ∷ []) (sym (magazine_of_tiny n small)) in
       subst (λ (x : CallRecord). FitsRecord p h 0 held x) (sym d_is)
       (match_none (held_at held name) _ _ (agree name ∙ free)
-      (Some b, by_magazine a (omega arith) event refl, undisturbed (new_entries v.tickets b) amid.mine, refl))
+      (Some b, by_magazine tiny_regions a (regional_of_tiny n small) refl refl, undisturbed (new_entries v.tickets b) amid.mine, refl))
   record_fits d u s st (served_in_fresh_region name n names base free small untaken all d_is named u_is) amid starts agree =
       let t = v.tickets in
       let g = good_size_of n in
       let fresh = fresh_entries t g in
       let front : List Entry = record { ticket = t; caller = 0; event = Full the_magazine g 16 } ∷ record { ticket = t + 1; caller = 0; event = Full the_depot g 16 } ∷ [] in
       let back : List Entry = record { ticket = t + 2; caller = 0; event = Take the_magazine 0 64 } ∷ record { ticket = t + 3; caller = 0; event = New the_magazine 0 g 16 } ∷ [] in
-      let k = sym (magazine_of_tiny n small) in
-      let full : events front ≡ Full (magazine_for p (request_by 0 n)) g 16 ∷ Full (depot_of (magazine_for p (request_by 0 n))) g 16 ∷ [] =
-      ap (λ m. Full m g 16 ∷ Full (depot_of m) g 16 ∷ []) k in
-      let taken : events back ≡ Take (magazine_for p (request_by 0 n)) 0 (region_pages (request_by 0 n)) ∷ New (magazine_for p (request_by 0 n)) 0 g 16 ∷ [] =
-      ap (λ m. Take m 0 64 ∷ New m 0 g 16 ∷ []) k ∙ ap (λ w. Take (magazine_for p (request_by 0 n)) 0 w ∷ New (magazine_for p (request_by 0 n)) 0 g 16 ∷ []) (sym (region_of_tiny n small)) in
       subst (λ (x : CallRecord). FitsRecord p h 0 held x) (sym d_is)
       (match_none (held_at held name) _ _ (agree name ∙ free)
-      (Some (block_at 0 g), by_fresh_region 0 0 front [] back (omega arith) refl full tt taken refl, undisturbed fresh amid.mine, refl))
+      (Some (block_at 0 g), by_fresh_region tiny_regions 0 0 front [] back (regional_of_tiny n small) refl refl tt refl refl, undisturbed fresh amid.mine, refl))
   record_fits d u s st (not_served name n free small no_room d_is u_is) amid starts agree =
       let t = v.tickets in
       let g = good_size_of n in
       let null = null_entries t g in
       let front : List Entry = record { ticket = t; caller = 0; event = Full the_magazine g 16 } ∷ record { ticket = t + 1; caller = 0; event = Full the_depot g 16 } ∷ [] in
       let last : Entry = record { ticket = t + 2; caller = 0; event = Dry 0 64 64 } in
-      let k = sym (magazine_of_tiny n small) in
-      let full : events front ≡ Full (magazine_for p (request_by 0 n)) g 16 ∷ Full (depot_of (magazine_for p (request_by 0 n))) g 16 ∷ [] =
-      ap (λ m. Full m g 16 ∷ Full (depot_of m) g 16 ∷ []) k in
-      let dry : last.event ≡ Dry 0 (region_pages (request_by 0 n)) (region_pages (request_by 0 n)) = ap (λ w. Dry 0 w w) (sym (region_of_tiny n small)) in
       let goes = turn_goes gen v sound few s d u st (not_served name n free small no_room d_is u_is) in
       let same = ap (entries_of_call 0) d_is in
       let here : Amid p h pre null post t = subst (λ (es : List Entry). Amid p h pre es post t) same amid in
@@ -152,7 +142,7 @@ module _ (gen : ℕ) (v : Session) (sound : IsSound v) (few : v.pages ≤ 64) (h
       ∙ settled_pages goes.stands.layout u in
       subst (λ (x : CallRecord). FitsRecord p h 0 held x) (sym d_is)
       (match_none (held_at held name) _ _ (agree name ∙ free)
-      (None, null_in_range front [] last (omega arith) refl full tt (record { event = dry; no_duty = duty }) refl, undisturbed null amid.mine, refl))
+      (None, null_in_range tiny_regions front [] last (regional_of_tiny n small) refl refl tt (record { event = refl; no_duty = duty }) refl, undisturbed null amid.mine, refl))
   record_fits d u s st (refused_not_held name free d_is u_is) amid starts agree =
       subst (λ (x : CallRecord). FitsRecord p h 0 held x) (sym d_is) (match_none (held_at held (name_word name)) _ _ (agree (name_word name) ∙ free) (refl, refl))
   record_fits d u s st (dropped name b names some d_is named u_is) amid starts agree =

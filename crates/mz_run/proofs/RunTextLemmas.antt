@@ -5,7 +5,7 @@ use Rattle.std.specs.List.{flat_map, list_all}
 use Rattle.std.proofs.lemmas.Bool.{and_parts, and_from, lt-ltb, false≢true}
 use Rattle.std.proofs.lemmas.List.{length-map}
 use Rattle.std.proofs.lemmas.List.Folds.{list_all-append}
-use Rattle.mz_trace.proofs.SoundLemmas.{count_by-append}
+use Rattle.std.proofs.lemmas.List.Sums.{sum_by-append}
 use Rattle.mz_base.specs.Sizes.{good_size_of}
 use Rattle.mz_base.specs.Space.{Block, block_end}
 use Rattle.mz_history.specs.Places.{spot_of}
@@ -14,10 +14,15 @@ use Rattle.mz_trace.specs.declared.command.Command.TheVariants as command
 use Rattle.mz_trace.specs.declared.run.CallRecord.{CallRecord}
 use Rattle.mz_trace.specs.declared.run.RunRound.{RunRound}
 use Rattle.mz_trace.specs.declared.trace.Trace.{Trace}
-use Rattle.mz_trace.specs.Lines.{is_u64, command_fits, command_gives, line_fits}
+use Rattle.mz_words.specs.Numbers.{is_u64}
+use Rattle.mz_trace.specs.Commands.{command_fits}
+use Rattle.mz_trace.specs.Lines.{command_gives, line_fits}
+use Rattle.mz_words.specs.Kinds.{word_fits}
 use Rattle.mz_trace.specs.Rounds.{call_line, round_lines, lines_of_rounds}
 use Rattle.mz_trace.specs.RunTexts.{round_of}
-use Rattle.mz_trace.specs.RunForms.{step_fits, answer_fits, call_record_fits, round_fits, listed_fits, IsRun, IsTail}
+use Rattle.mz_trace.specs.RunForms.{step_fits, call_record_fits, round_fits, IsRun, IsTail}
+use Rattle.mz_trace.specs.Answers.{answer_fits}
+use Rattle.mz_trace.specs.TailTexts.{listed_fits}
 use Rattle.mz_trace.specs.Texts.{IsTrace}
 use Rattle.mz_run.specs.declared.session.Session.{Session}
 use Rattle.mz_run.specs.Blocks.{region_end, IsTiled}
@@ -43,6 +48,7 @@ told_as d e is h = ap told is ∙ h
 
 -- what one turn tells
 turn_told : (v : Session) (d : CallRecord) (u : Session) → Turn v d u → IsSound v → u.tickets < 2 ^ 64 → told d ≡ true
+unfolding word_fits
 turn_told v d u (refused_held name n held d_is u_is) sound few = told_as d _ d_is refl
 turn_told v d u (served_in_region name n a names base free small taken place d_is named u_is) sound few =
     let size = good_size_of-tiny n small in
@@ -142,7 +148,7 @@ rounds_gifts base (ds ∷ lists) h =
     let parts = and_parts (is_built_round (round_of (round_with ds))) _ h in
     let first = round_gifts base ds parts.0 in
     let rest = rounds_gifts base lists parts.1 in
-    omega (arith, count_by-append (command_gives base) (map (λ d. d.command) ds ++ []) (commands_in (map round_with lists)), first, rest)
+    omega (arith, sum_by-append (λ x. cond (command_gives base x) 1 0) (map (λ d. d.command) ds ++ []) (commands_in (map round_with lists)), first, rest)
 
 -- the run
 module _ (t : Trace) (is_trace : IsTrace t) (built : IsBuilt t) where
@@ -179,6 +185,7 @@ tiled_count (b ∷ bs) x h =
     let some = h.1.some in omega (arith, rest, low, some)
 
 listed_told : (bs : List Block) (x : ℕ) → IsTiled x bs → list_all listed_fits (map (λ b. listed (spot_of the_magazine, b)) bs) ≡ true
+unfolding word_fits
 listed_told [] x h = refl
 listed_told (b ∷ bs) x h =
     let high = tiled-end bs (block_end b) h.2 in

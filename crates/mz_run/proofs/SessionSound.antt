@@ -10,8 +10,8 @@ use Rattle.std.proofs.lemmas.Slice.Eq.{bytes_eq-Decides}
 use Rattle.mz_base.specs.Names.{is_base_name}
 use Rattle.mz_base.specs.Sizes.{good_size_of}
 use Rattle.mz_base.specs.Space.{Block, block_at, block_end, blocks_apart, same_block}
-use Rattle.mz_history.specs.State.{insert_by, has_block}
-use Rattle.mz_history.specs.Effect.{add_block, drop_block, still_freed}
+use Rattle.mz_base.specs.Lists.{insert_by, has_block, add_block, drop_block}
+use Rattle.mz_history.specs.Changes.{still_freed}
 use Rattle.mz_trace.specs.declared.run.CallRecord.{CallRecord}
 use Rattle.mz_run.specs.declared.session.Session.{Session}
 use Rattle.mz_run.specs.Blocks.{region_end, IsQuanta, IsTiled}

@@ -3,21 +3,21 @@ use Rattle.std.proofs.Common.{◌≡◌, ℕ, ◌+◌, ◌<◌, ◌≤◌, ◌%�
 use Rattle.std.specs.Prelude.{IsTrue, nat_le}
 use Rattle.std.proofs.lemmas.Bool.{false≢true, le-leb}
 use Rattle.mz_base.specs.declared.profile.Profile.{Profile}
-use Rattle.mz_base.specs.declared.range.Range.{Range}
 use Rattle.mz_base.specs.declared.range.Range.TheVariants as range
-use Rattle.mz_base.proofs.SizeLemmas.{good_size_of-least, good_size_of-mod, good_size_of-holds}
-use Rattle.mz_base.specs.Sizes.{good_size_of, route_of, unit_of}
+use Rattle.mz_base.specs.Sizes.{good_size_of, route_of}
 use Rattle.mz_base.specs.Space.{Block, block_at}
 use Rattle.mz_history.specs.declared.event.Event.TheVariants.{Take, New, End, Full, Dry}
 use Rattle.mz_history.specs.declared.entry.Entry.{Entry}
-use Rattle.mz_history.specs.State.{State, nothing_kept, has_block}
-use Rattle.mz_history.specs.Effect.{add_block, still_freed}
+use Rattle.mz_history.specs.State.{State, nothing_kept}
+use Rattle.mz_base.specs.Lists.{has_block, add_block}
+use Rattle.mz_history.specs.Changes.{still_freed}
 use Rattle.mz_trace.specs.declared.run.CallRecord.{CallRecord}
 use Rattle.mz_run.specs.declared.session.Session.{Session}
 use Rattle.mz_run.specs.Session.{the_magazine, the_depot, bytes_in, IsSound, IsPlace, HasNoRoom, after_serving, after_dropping, Turn, refused_held, served_in_region, served_in_fresh_region, not_served, refused_not_held, dropped}
 use Rattle.mz_run.specs.Entries.{entries_of_call}
 use Rattle.mz_run.proofs.Standing.{space_of, region_kept, rest_kept, at_depot, at_pages, at_large, with_values, Layout, untouched, parched, in_region, in_full_region, values_of, takes, is_parched, state_by, Stands}
 use Rattle.mz_run.proofs.EventLemmas.{deed}
+use Rattle.mz_run.proofs.SessionSound.{good_size_of-tiny}
 use Rattle.mz_run.proofs.OrderLemmas.{CountsFrom}
 use Rattle.mz_run.proofs.LeadLemmas.{Leads, leads_nowhere, null_entries, new_entries, end_entries, fresh_entries, null_again, null_first, null_untouched, new_leads, end_leads, fresh_leads, no_second_region, no_region}
 
@@ -37,15 +37,10 @@ tiny_route n small = let low : nat_le n 1008 ≡ true = le-leb n 1008 small in r
 
 -- the good size of a tiny request is some quanta, at most 1,008 bytes
 pub small_size : (n : ℕ) → n ≤ 1008 → good_size_of n ≤ 1008
-small_size n small =
-    let multiple : 1008 % unit_of (route_of n) ≡ 0 = subst (λ (r : Range). 1008 % unit_of r ≡ 0) (sym (tiny_route n small)) refl in
-    good_size_of-least n 1008 multiple (omega arith)
+small_size n small = (good_size_of-tiny n small).2
 
 pub quanta_size : (n : ℕ) → n ≤ 1008 → (good_size_of n % 16 ≡ 0) × (16 ≤ good_size_of n)
-quanta_size n small =
-    let multiple : good_size_of n % 16 ≡ 0 = subst (λ (r : Range). good_size_of n % unit_of r ≡ 0) (tiny_route n small) (good_size_of-mod n) in
-    let some = good_size_of-holds n in
-    (multiple, omega (arith, some))
+quanta_size n small = let size = good_size_of-tiny n small in (size.0, size.1)
 
 module _ (gen : ℕ) (v : Session) (sound : IsSound v) (few : v.pages ≤ 64) where
   abbrev p : Profile

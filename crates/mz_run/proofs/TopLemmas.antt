@@ -6,7 +6,7 @@ use Rattle.mz_io.specs.Count.{Rose}
 use Rattle.mz_run.specs.declared.status.Status.{Status}
 use Rattle.mz_run.specs.declared.status.Status.TheVariants.{Done, No, Usage, BadInput, ReadFault, WriteFault, NoMemory, TooLong}
 use Rattle.mz_run.specs.Built.{HasUnbuilt}
-use Rattle.mz_run.specs.Top.{most_bytes, Seen, IsInput, IsTooLong, SaysBadLine, IsRefusal, no_trace, not_built, RunEnds, CheckEnds}
+use Rattle.mz_run.specs.Top.{most_bytes, Seen, IsInput, IsTooLong, SaysBadLine, IsRefusal, no_trace, not_built, RunSays, CheckSays, CallEnds}
 use Rattle.mz_trace.specs.Faults.{bad_line_of}
 
 -- a source that told its bytes and gave all of them gave just these
@@ -40,7 +40,7 @@ never_refused bytes output good built (no_trace tells) = never_bad bytes output 
 never_refused bytes output good built (not_built tells) = built tells.line tells.unbuilt
 
 pub run_completeness :
-    (before after : Seen) (s : Status) (bytes : List ℕ) → RunEnds before after s
+    (before after : Seen) (s : Status) (bytes : List ℕ) → CallEnds RunSays before after s
     → ¬ Rose before.read_faults after.read_faults → ¬ Rose before.write_faults after.write_faults
     → before.left ≡ Some bytes → length bytes ≤ most_bytes → bad_line_of bytes ≡ None
     → ((line : ℕ) → ¬ HasUnbuilt bytes line) → (s ≡ Done) ⊎ (s ≡ NoMemory)
@@ -58,7 +58,7 @@ run_completeness before after TooLong bytes ends reads writes told few good buil
     absurd (never_too_long before.left after.left bytes ends.1.bytes told few ends.1.input)
 
 pub check_completeness :
-    (before after : Seen) (s : Status) (bytes : List ℕ) → CheckEnds before after s
+    (before after : Seen) (s : Status) (bytes : List ℕ) → CallEnds CheckSays before after s
     → ¬ Rose before.read_faults after.read_faults → ¬ Rose before.write_faults after.write_faults
     → before.left ≡ Some bytes → length bytes ≤ most_bytes → bad_line_of bytes ≡ None → (s ≡ Done) ⊎ (s ≡ NoMemory)
 check_completeness before after Done bytes ends reads writes told few good = inl refl
@@ -76,7 +76,7 @@ check_completeness before after TooLong bytes ends reads writes told few good =
 
 -- whatever the bytes are
 pub check_answers :
-    (before after : Seen) (s : Status) (bytes : List ℕ) → CheckEnds before after s
+    (before after : Seen) (s : Status) (bytes : List ℕ) → CallEnds CheckSays before after s
     → ¬ Rose before.read_faults after.read_faults → ¬ Rose before.write_faults after.write_faults
     → before.left ≡ Some bytes → length bytes ≤ most_bytes → (s ≡ Done) ⊎ ((s ≡ No) ⊎ (s ≡ NoMemory))
 check_answers before after Done bytes ends reads writes told few = inl refl

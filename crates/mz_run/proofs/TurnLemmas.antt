@@ -7,11 +7,11 @@ use Rattle.mz_base.specs.Sizes.{good_size_of}
 use Rattle.mz_base.specs.Space.{Block, block_at}
 use Rattle.mz_history.specs.declared.event.Event.{Event}
 use Rattle.mz_history.specs.declared.event.Event.TheVariants.{Take, New, End, Dry}
-use Rattle.mz_history.specs.Effect.{drop_block}
+use Rattle.mz_base.specs.Lists.{drop_block}
 use Rattle.mz_trace.specs.declared.command.Command.TheVariants.{Malloc, Free}
 use Rattle.mz_trace.specs.declared.answer.Answer.TheVariants as answers
-use Rattle.mz_trace.specs.declared.name.Name.{Name}
-use Rattle.mz_trace.specs.declared.name.Name.TheVariants.{Base}
+use Rattle.mz_words.specs.declared.name.Name.{Name}
+use Rattle.mz_words.specs.declared.name.Name.TheVariants.{Base}
 use Rattle.mz_trace.specs.declared.run.Step.{Step}
 use Rattle.mz_trace.specs.declared.run.CallRecord.{CallRecord}
 use Rattle.mz_trace.specs.declared.run.RunRound.{RunRound}

@@ -4,7 +4,7 @@ use Rattle.std.specs.Prelude.{ℕ, ◌+◌, ◌*◌, ◌%◌, ◌≡◌, ◌<◌
 use Rattle.std.specs.List.{list_all, AllWithin}
 use Rattle.mz_base.specs.declared.range.TheConstants.{PAGE}
 use Rattle.mz_base.specs.Space.{Block, Run, block_at, run_at, block_end, blocks_apart}
-use Rattle.mz_history.specs.Room.{is_at_front}
+use Rattle.mz_base.specs.Room.{is_at_front}
 
 -- the region: 64 pages from page 0 on
 abbrev pub the_region : Run

@@ -8,7 +8,8 @@ use Rattle.mz_trace.specs.declared.command.Command.{Command}
 use Rattle.mz_trace.specs.declared.command.Command.TheVariants.{Malloc, Free}
 use Rattle.mz_trace.specs.declared.round.Round.{Round}
 use Rattle.mz_trace.specs.declared.trace.Trace.{Trace}
-use Rattle.mz_trace.specs.Lines.{Line, round, start, call}
+use Rattle.mz_trace.specs.declared.line.Line.{Line}
+use Rattle.mz_trace.specs.declared.line.Line.TheVariants as line
 use Rattle.mz_trace.specs.Rounds.{HaveLists}
 use Rattle.mz_trace.specs.Texts.{IsTraceText, lines_of}
 
@@ -24,9 +25,9 @@ is_built_command _ = false
 
 -- `round`, and those commands
 abbrev pub is_built_line : Line → Bool
-is_built_line round = true
-is_built_line (start x) = false
-is_built_line (call caller command) = is_built_command command
+is_built_line line.Round = true
+is_built_line (line.Start x) = false
+is_built_line (line.Call caller command) = is_built_command command
 
 -- a round of such lines, with one list of commands
 abbrev pub is_built_round : Round → Bool

@@ -4,6 +4,7 @@
 use Rattle.std.specs.Prelude.{ℕ, ◌*◌, ◌%◌, ◌≡◌, ◌<◌, ◌≤◌, Bool, true, false, List, [], ◌∷◌, ◌++◌, map, Option, None, Some, IsTrue, Contains}
 use Rattle.mz_base.specs.declared.profile.Profile.{Profile}
 use Rattle.mz_base.specs.declared.range.TheConstants.{PAGE}
+use Rattle.mz_base.specs.declared.range.Range.{Range}
 use Rattle.mz_base.specs.declared.range.Range.TheVariants as range
 use Rattle.mz_base.specs.Sizes.{route_of, units_of, good_size_of}
 use Rattle.mz_base.specs.Space.{Block, block_at}
@@ -15,7 +16,8 @@ use Rattle.mz_history.specs.declared.entry.Entry.{Entry}
 use Rattle.mz_history.specs.Places.{depot_of, spot_of, Spot}
 use Rattle.mz_history.specs.State.{kept_at}
 use Rattle.mz_history.specs.Room.{best_fit}
-use Rattle.mz_history.specs.Effect.{touches, run_of}
+use Rattle.mz_history.specs.Effect.{touches}
+use Rattle.mz_history.specs.Changes.{run_of}
 use Rattle.mz_run.specs.Moments.{state_before, duty_left}
 
 -- a request by a caller, in a zone, for some bytes at an alignment
@@ -29,19 +31,26 @@ pub record Request : Type 0 where
 abbrev pub size_for : Request → ℕ
 size_for q = good_size_of q.bytes
 
--- the magazine of the caller, in the range that serves the request
-abbrev pub magazine_for : Profile → Request → Place
-magazine_for p q = elim (route_of q.bytes) [
-  | range.Small ↦ Small q.zone (q.caller % p.magazines)
-  | _ ↦ Tiny q.zone (q.caller % p.magazines)
-]
+-- What serves requests in regions: the magazine of the caller, and the pages of a region.
+pub record Regional : Type 0 where
+  pub magazine : Place
+  pub pages : ℕ
 
--- the pages of a region in that range
-abbrev pub region_pages : Request → ℕ
-region_pages q = elim (route_of q.bytes) [
-  | range.Small ↦ 512
-  | _ ↦ 64
-]
+-- what does so in a range, if the range has regions; no request is routed to nano, which serves beside tiny, nor to medium
+abbrev pub regional_in : Profile → Request → Range → Option Regional
+regional_in p q range.Nano = None
+regional_in p q range.Tiny = Some (record { magazine = Tiny q.zone (q.caller % p.magazines); pages = 64 })
+regional_in p q range.Small = Some (record { magazine = Small q.zone (q.caller % p.magazines); pages = 512 })
+regional_in p q range.Medium = None
+regional_in p q range.Large = None
+
+-- what serves the request so, if its range has regions
+abbrev pub regional_for : Profile → Request → Option Regional
+regional_for p q = regional_in p q (route_of q.bytes)
+
+-- the request is one for whole pages
+abbrev pub IsForLarge : Request → Type 0
+IsForLarge q = route_of q.bytes ≡ range.Large
 
 abbrev pub events : List Entry → List Event
 events es = map (λ e. e.event) es
@@ -65,38 +74,37 @@ pub data IsServed (p : Profile) (h : List Entry) (q : Request) (es : List Entry)
       → events es ≡ New Nano a (size_for q) 16 ∷ []
       → got ≡ Some (block_at a (size_for q)) → IsServed p h q es got
   by_magazine :
-      (a : ℕ) → q.bytes ≤ 32768
-      → events es ≡ New (magazine_for p q) a (size_for q) q.align ∷ []
+      (r : Regional) (a : ℕ) → regional_for p q ≡ Some r
+      → events es ≡ New r.magazine a (size_for q) q.align ∷ []
       → got ≡ Some (block_at a (size_for q)) → IsServed p h q es got
   by_depot :
-      (a f : ℕ) → q.bytes ≤ 32768
-      → events es ≡ Full (magazine_for p q) (size_for q) q.align ∷ Move f (depot_of (magazine_for p q)) (magazine_for p q)
-      ∷ New (magazine_for p q) a (size_for q) q.align ∷ []
+      (r : Regional) (a f : ℕ) → regional_for p q ≡ Some r
+      → events es ≡ Full r.magazine (size_for q) q.align ∷ Move f (depot_of r.magazine) r.magazine ∷ New r.magazine a (size_for q) q.align ∷ []
       → got ≡ Some (block_at a (size_for q)) → IsServed p h q es got
   by_fresh_region :
-      (a f : ℕ) (front flushes back : List Entry) → q.bytes ≤ 32768 → es ≡ front ++ flushes ++ back
-      → events front ≡ Full (magazine_for p q) (size_for q) q.align ∷ Full (depot_of (magazine_for p q)) (size_for q) q.align ∷ []
-      → AreFlushes p h q.zone (region_pages q) (region_pages q) flushes
-      → events back ≡ Take (magazine_for p q) f (region_pages q) ∷ New (magazine_for p q) a (size_for q) q.align ∷ []
+      (r : Regional) (a f : ℕ) (front flushes back : List Entry) → regional_for p q ≡ Some r → es ≡ front ++ flushes ++ back
+      → events front ≡ Full r.magazine (size_for q) q.align ∷ Full (depot_of r.magazine) (size_for q) q.align ∷ []
+      → AreFlushes p h q.zone r.pages r.pages flushes
+      → events back ≡ Take r.magazine f r.pages ∷ New r.magazine a (size_for q) q.align ∷ []
       → got ≡ Some (block_at a (size_for q)) → IsServed p h q es got
   null_in_range :
-      (front flushes : List Entry) (last : Entry) → q.bytes ≤ 32768 → es ≡ front ++ flushes ++ last ∷ []
-      → events front ≡ Full (magazine_for p q) (size_for q) q.align ∷ Full (depot_of (magazine_for p q)) (size_for q) q.align ∷ []
-      → AreFlushes p h q.zone (region_pages q) (region_pages q) flushes
-      → IsLastDry p h q.zone (region_pages q) (region_pages q) last
+      (r : Regional) (front flushes : List Entry) (last : Entry) → regional_for p q ≡ Some r → es ≡ front ++ flushes ++ last ∷ []
+      → events front ≡ Full r.magazine (size_for q) q.align ∷ Full (depot_of r.magazine) (size_for q) q.align ∷ []
+      → AreFlushes p h q.zone r.pages r.pages flushes
+      → IsLastDry p h q.zone r.pages r.pages last
       → got ≡ None → IsServed p h q es got
   by_cache :
-      (e : Entry) (a s : ℕ) → 32768 < q.bytes → es ≡ e ∷ [] → e.event ≡ New (Large q.zone) a s q.align
+      (e : Entry) (a s : ℕ) → IsForLarge q → es ≡ e ∷ [] → e.event ≡ New (Large q.zone) a s q.align
       → best_fit (kept_at (state_before p h e.ticket) (spot_of (Large q.zone))).cached (units_of q.bytes) ≡ Some (run_of (block_at a s))
       → got ≡ Some (block_at a s) → IsServed p h q es got
   by_fresh_run :
-      (f : ℕ) (first : Entry) (flushes back : List Entry) → 32768 < q.bytes → es ≡ first ∷ flushes ++ back
+      (f : ℕ) (first : Entry) (flushes back : List Entry) → IsForLarge q → es ≡ first ∷ flushes ++ back
       → first.event ≡ Full (Large q.zone) (units_of q.bytes) 1
       → AreFlushes p h q.zone (units_of q.bytes) 1 flushes
       → events back ≡ Take (Large q.zone) f (units_of q.bytes) ∷ New (Large q.zone) (f * PAGE) (size_for q) q.align ∷ []
       → got ≡ Some (block_at (f * PAGE) (size_for q)) → IsServed p h q es got
   null_in_large :
-      (first last : Entry) (flushes : List Entry) → 32768 < q.bytes → es ≡ first ∷ flushes ++ last ∷ []
+      (first last : Entry) (flushes : List Entry) → IsForLarge q → es ≡ first ∷ flushes ++ last ∷ []
       → first.event ≡ Full (Large q.zone) (units_of q.bytes) 1
       → AreFlushes p h q.zone (units_of q.bytes) 1 flushes
       → IsLastDry p h q.zone (units_of q.bytes) 1 last

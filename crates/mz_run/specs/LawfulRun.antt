@@ -13,7 +13,7 @@ use Rattle.mz_trace.specs.declared.run.CallRecord.{CallRecord}
 use Rattle.mz_trace.specs.declared.run.RunRound.{RunRound}
 use Rattle.mz_trace.specs.declared.run.Run.{Run}
 use Rattle.mz_trace.specs.declared.trace.Trace.{Trace}
-use Rattle.mz_trace.specs.Names.{name_word}
+use Rattle.mz_words.specs.Names.{name_word}
 use Rattle.mz_trace.specs.RunTexts.{trace_of}
 use Rattle.mz_run.specs.Entries.{entries_of_call, entries_of, calls_of, AreInOrder}
 use Rattle.mz_run.specs.Names.{Holding, held_at, held_after}

@@ -10,8 +10,6 @@ pub mod Listing
 pub mod Blocks
 pub mod Session
 pub mod Passing
+pub mod Jobs
 pub mod Top
 pub mod Replies
-pub mod Examples
-pub mod ExamplesResized
-pub mod ExamplesRounds

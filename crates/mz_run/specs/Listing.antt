@@ -1,14 +1,16 @@
 -- What stands behind a printed run: the live blocks of its last state, and the statistics. The names of the statistics are
 -- libmalloc's.
-use Rattle.std.specs.Prelude.{ℕ, zero, suc, ◌+◌, ◌*◌, ◌==◌, nat_le, if◌then◌else◌, List, [], ◌∷◌, length, map, sum_by, codes}
+use Rattle.std.specs.Prelude.{ℕ, zero, suc, ◌+◌, ◌*◌, List, [], ◌∷◌, length, map, sum_by, codes}
 use Rattle.mz_base.specs.declared.profile.Profile.{Profile}
 use Rattle.mz_base.specs.declared.range.TheConstants.{PAGE}
 use Rattle.mz_base.specs.declared.range.Range.{Range}
 use Rattle.mz_base.specs.declared.range.Range.TheVariants as range
 use Rattle.mz_base.specs.Space.{Block}
-use Rattle.mz_history.specs.declared.place.Place.TheVariants.{Pages}
-use Rattle.mz_history.specs.Places.{Spot, spot_of}
-use Rattle.mz_history.specs.State.{State, live_blocks, live_size, kept_at, insert_by}
+use Rattle.mz_history.specs.declared.place.Place.{Place}
+use Rattle.mz_history.specs.declared.place.Place.TheVariants.{Pages, Tiny, TinyDepot, Small, SmallDepot, Large, Nano}
+use Rattle.mz_history.specs.Places.{Spot, place_of, spot_of, zone_of}
+use Rattle.mz_history.specs.State.{State, live_blocks, live_size, kept_at}
+use Rattle.mz_base.specs.Lists.{insert_by}
 use Rattle.mz_history.specs.History.{state_of}
 use Rattle.mz_trace.specs.declared.run.Run.{Run}
 use Rattle.mz_trace.specs.declared.tail.Listed.{Listed}
@@ -16,9 +18,15 @@ use Rattle.mz_trace.specs.declared.tail.Figures.{Figures}
 use Rattle.mz_trace.specs.declared.tail.Statistics.{Statistics}
 use Rattle.mz_run.specs.Entries.{entries_of}
 
--- the range of a spot: tiny and small are magazines and depots
-abbrev pub range_of : Spot → Range
-range_of j = if nat_le j.kind 2 then range.Tiny else (if nat_le j.kind 4 then range.Small else (if j.kind == 5 then range.Large else range.Nano))
+-- the range of a place's blocks; none live in the free pages, of which this says nothing
+abbrev pub range_of : Place → Range
+range_of Pages = range.Large
+range_of (Tiny z m) = range.Tiny
+range_of (TinyDepot z) = range.Tiny
+range_of (Small z m) = range.Small
+range_of (SmallDepot z) = range.Small
+range_of (Large z) = range.Large
+range_of Nano = range.Nano
 
 -- The name of a zone. Zone 0 is `default`, and no line of today's traces opens another one and gives it a name.
 abbrev pub zone_name : ℕ → List ℕ
@@ -27,7 +35,7 @@ zone_name (suc z) = []
 
 -- a live block of a spot, as it is listed
 abbrev pub listed : Spot × Block → Listed
-listed pair = record { a = pair.1.first; s = pair.1.size; range = range_of pair.0; zone = zone_name pair.0.zone }
+listed pair = record { a = pair.1.first; s = pair.1.size; range = range_of (place_of pair.0); zone = zone_name (zone_of (place_of pair.0)) }
 
 -- in ascending order of addresses
 unfoldable pub by_address : List Listed → List Listed

@@ -7,7 +7,7 @@ use Rattle.mz_trace.specs.declared.command.Command.{Command}
 use Rattle.mz_trace.specs.declared.command.Command.TheVariants.{Malloc, Free}
 use Rattle.mz_trace.specs.declared.answer.Answer.{Answer}
 use Rattle.mz_trace.specs.declared.answer.Answer.TheVariants as answers
-use Rattle.mz_trace.specs.Names.{name_word}
+use Rattle.mz_words.specs.Names.{name_word}
 
 -- A name, as it is written, with its block, and the bytes of the block, each known or unknown.
 pub record Holding : Type 0 where

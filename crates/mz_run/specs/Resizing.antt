@@ -9,10 +9,11 @@ use Rattle.mz_base.specs.Space.{Block, block_at, blocks_apart}
 use Rattle.mz_history.specs.declared.place.Place.{Place}
 use Rattle.mz_history.specs.declared.event.Event.TheVariants.{Size}
 use Rattle.mz_history.specs.declared.entry.Entry.{Entry}
-use Rattle.mz_history.specs.Places.{is_magazine, is_depot, spot_of, Spot}
-use Rattle.mz_history.specs.Room.{lies_in}
+use Rattle.mz_history.specs.Places.{is_magazine, is_depot, spot_of, zone_of, Spot, place_of}
+use Rattle.mz_base.specs.Room.{lies_in}
 use Rattle.mz_history.specs.Rules.{nano_start}
-use Rattle.mz_history.specs.State.{State, opening, kept_at, has_block}
+use Rattle.mz_history.specs.State.{State, opening, kept_at}
+use Rattle.mz_base.specs.Lists.{has_block}
 use Rattle.mz_history.specs.History.{after_all, by_ticket}
 use Rattle.mz_trace.specs.declared.run.StartRecord.{StartRecord}
 use Rattle.mz_trace.specs.declared.run.CallRecord.{CallRecord}
@@ -80,7 +81,7 @@ pub record IsLiveIn (p : Profile) (h : List Entry) (c : ℕ) (w : Standpoint) (b
   pub moment : IsMoment h c w t
   pub spot : Spot
   pub live : IsTrue (has_block (kept_at (state_at p h t) spot).live b)
-  pub zone : spot.zone ≡ z
+  pub zone : zone_of (place_of spot) ≡ z
 
 -- When a block moves. A growth in its region moves only where it was hemmed in at some such moment.
 pub data Moves (p : Profile) (h : List Entry) (c : ℕ) (w : Standpoint) (b : Block) (n : ℕ) : Type 0 where

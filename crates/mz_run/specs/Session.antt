@@ -10,15 +10,16 @@ use Rattle.mz_history.specs.declared.place.Place.TheVariants.{Tiny, TinyDepot}
 use Rattle.mz_history.specs.declared.event.Event.{Event}
 use Rattle.mz_history.specs.declared.event.Event.TheVariants.{Take, New, End, Full, Dry}
 use Rattle.mz_history.specs.Places.{spot_of}
-use Rattle.mz_history.specs.State.{Kept, nothing_kept, has_block}
-use Rattle.mz_history.specs.Room.{any_has_room}
-use Rattle.mz_history.specs.Rules.{is_placed_in_magazine}
-use Rattle.mz_history.specs.Effect.{add_block, drop_block, still_freed}
+use Rattle.mz_history.specs.State.{Kept, nothing_kept}
+use Rattle.mz_base.specs.Lists.{has_block, add_block, drop_block}
+use Rattle.mz_base.specs.Room.{any_has_room}
+use Rattle.mz_history.specs.Placement.{is_placed_in_magazine}
+use Rattle.mz_history.specs.Changes.{still_freed}
 use Rattle.mz_trace.specs.declared.command.Command.TheVariants.{Malloc, Free}
 use Rattle.mz_trace.specs.declared.answer.Answer.TheVariants as answers
-use Rattle.mz_trace.specs.declared.name.Name.{Name}
-use Rattle.mz_trace.specs.declared.name.Name.TheVariants.{Base}
-use Rattle.mz_trace.specs.Names.{name_word}
+use Rattle.mz_words.specs.declared.name.Name.{Name}
+use Rattle.mz_words.specs.declared.name.Name.TheVariants.{Base}
+use Rattle.mz_words.specs.Names.{name_word}
 use Rattle.mz_trace.specs.declared.run.Step.{Step}
 use Rattle.mz_trace.specs.declared.run.CallRecord.{CallRecord}
 use Rattle.mz_trace.specs.declared.run.RunRound.{RunRound}

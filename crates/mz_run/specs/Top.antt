@@ -1,5 +1,5 @@
 -- How a call of the program ends, as its source and its sink show it. This project's own.
-use Rattle.std.specs.Prelude.{ℕ, ◌≡◌, ◌≢◌, ◌≤◌, ◌+◌, List, [], ◌∷◌, ◌++◌, length, take, Option, None, Some, codes}
+use Rattle.std.specs.Prelude.{ℕ, ◌≡◌, ◌≤◌, ◌+◌, List, [], ◌∷◌, ◌++◌, length, take, Option, None, Some, MatchOption, codes}
 use Rattle.std.specs.Fmt.{decimal}
 use Rattle.std.specs.Io.KnownBytes.{Consumes, IsAtEnd}
 use Rattle.mz_io.specs.Count.{Rose}
@@ -12,6 +12,11 @@ use Rattle.mz_trace.specs.RunForms.{IsRunText}
 use Rattle.mz_trace.specs.Texts.{IsTraceText, HasTrace}
 use Rattle.mz_run.specs.declared.status.Status.{Status}
 use Rattle.mz_run.specs.declared.status.Status.TheVariants.{Done, No, Usage, BadInput, ReadFault, WriteFault, NoMemory, TooLong}
+use Rattle.mz_run.specs.declared.job.RunJob.TheVariants.{Trace as trace_job}
+use Rattle.mz_run.specs.declared.job.Tool.TheVariants.{Check}
+use Rattle.mz_run.specs.declared.job.Job.{Job}
+use Rattle.mz_run.specs.declared.job.Job.TheVariants as jobs
+use Rattle.mz_run.specs.Jobs.{job_of}
 use Rattle.mz_run.specs.Built.{unbuilt_line, HasUnbuilt}
 use Rattle.mz_run.specs.LawfulRun.{IsLawfulRun}
 use Rattle.mz_run.specs.Listing.{tail_of}
@@ -175,12 +180,14 @@ CallEnds says before after WriteFault = PrintedFront (Says says before.left afte
 CallEnds says before after NoMemory = IsBounded before.left after.left × IsUnwritten before after
 CallEnds says before after status = Printed (Says says before.left after.left) before after status
 
--- how a run of the trace that the source gives ends, and a check of it
-abbrev pub RunEnds : Seen → Seen → Status → Type 0
-RunEnds before after status = CallEnds RunSays before after status
+-- what a job says of a whole input, by the status with which it then ends
+abbrev pub JobSays : Job → List ℕ → Status → List ℕ → Type 0
+JobSays (jobs.Run trace_job) bytes status output = RunSays bytes status output
+JobSays (jobs.Tool Check) bytes status output = CheckSays bytes status output
 
-abbrev pub CheckEnds : Seen → Seen → Status → Type 0
-CheckEnds before after status = CallEnds CheckSays before after status
+-- how a job ends
+abbrev pub JobEnds : Job → Seen → Seen → Status → Type 0
+JobEnds job before after status = CallEnds (JobSays job) before after status
 
 -- the line for words that the program doesn't know
 abbrev pub usage : List ℕ
@@ -192,8 +199,6 @@ UsageEnds before after Usage = IsUnread before after × Wrote before after usage
 UsageEnds before after WriteFault = IsUnread before after × IsCutShort before after usage
 UsageEnds before after _ = ⊥
 
--- how the call ends, by its words: the one word `run`, the one word `check`, or others
-pub record MainEnds (words : List (List ℕ)) (before after : Seen) (status : Status) : Type 0 where
-  pub run : words ≡ codes "run" ∷ [] → RunEnds before after status
-  pub check : words ≡ codes "check" ∷ [] → CheckEnds before after status
-  pub others : words ≢ codes "run" ∷ [] → words ≢ codes "check" ∷ [] → UsageEnds before after status
+-- how the call ends by its words: as the job that they name, or as one that tells the usage
+abbrev pub MainEnds : List (List ℕ) → Seen → Seen → Status → Type 0
+MainEnds words before after status = MatchOption (job_of words) (UsageEnds before after status) (λ job. JobEnds job before after status)

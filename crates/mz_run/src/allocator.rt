@@ -11,10 +11,9 @@ ghost use Rattle.mz_run.specs.Listing.{tail_of};
 ghost use Rattle.mz_run.specs.Session.{IsSound, RoundTurns, RoundsTurn};
 
 use crate::session::Session;
+use mz_base::Items;
 use mz_io::Gate;
-use mz_trace::{
-    CallRecords, CallerRecords, Figures, Round, Run, RunRound, RunRounds, StartRecords, Trace,
-};
+use mz_trace::{Figures, Round, Run, RunRound, Trace};
 use std::alloc::{AllocError, Global};
 use std::sync::Wait;
 
@@ -36,7 +35,7 @@ pub fn serve<R: Wait + Sync, G: Gate>(
     let figures = session.tail(alloc)?;
     let run = Run {
         profile: trace.profile,
-        rounds: RunRounds::of(rounds),
+        rounds: Items::of(rounds),
     };
     Ok((run, figures))
 }
@@ -81,9 +80,9 @@ fn serve_round<R: Wait + Sync, G: Gate>(
         unreachable!();
     };
     let records = session.round(rt, alloc, commands.as_slice(), gate)?;
-    let callers = vec![in alloc; CallRecords::of(records)]?;
+    let callers = vec![in alloc; Items::of(records)]?;
     Ok(RunRound {
-        starts: StartRecords::new(alloc),
-        callers: CallerRecords::of(callers),
+        starts: Items::new(alloc),
+        callers: Items::of(callers),
     })
 }

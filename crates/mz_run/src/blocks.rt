@@ -10,9 +10,9 @@
 ghost use Rattle.std.specs.Prelude.{◌≡◌, ◌<◌, ◌≤◌, ◌%◌, ◌+◌, [], false, IsTrue, MatchOption, OnOk, OnErr, ◌∷◌};
 ghost use Rattle.std.specs.List.{list_all};
 ghost use Rattle.mz_base.specs.Space.{block_at, block_end, blocks_apart};
-ghost use Rattle.mz_history.specs.State.{has_block};
-ghost use Rattle.mz_history.specs.Room.{any_has_room};
-ghost use Rattle.mz_history.specs.Effect.{add_block, drop_block};
+ghost use Rattle.mz_base.specs.Lists.{has_block};
+ghost use Rattle.mz_base.specs.Room.{any_has_room};
+ghost use Rattle.mz_base.specs.Lists.{add_block, drop_block};
 ghost use Rattle.mz_run.specs.Blocks.{the_region, region_end, end_from, IsQuanta, IsTiled, IsPlaceOf, IsFreeFront};
 
 use mz_base::PAGE;

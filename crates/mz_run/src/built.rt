@@ -3,12 +3,12 @@
 ghost use Rattle.std.specs.Prelude.{◌≡◌, ◌+◌, ◌<◌, ◌^◌, ℕ, IsTrue, length, map};
 ghost use Rattle.mz_run.specs.Built.{is_built_space, is_built_command, unbuilt_line};
 ghost use Rattle.mz_run.specs.Passing.{passed};
-ghost use Rattle.mz_trace.specs.Lines.{call};
+ghost use Rattle.mz_trace.specs.declared.line.Line.TheVariants as trace_line;
 ghost use Rattle.mz_trace.specs.Rounds.{call_line, calls_from, round_lines, lines_of_rounds};
 ghost use Rattle.mz_trace.specs.Texts.{lines_of};
 
-use mz_base::Profile;
-use mz_trace::{Command, Commands, Round, Trace};
+use mz_base::{Items, Profile};
+use mz_trace::{Command, Round, Trace};
 
 /// The number of the second line of a trace, which has the space.
 const SPACE_LINE: u64 = 2;
@@ -78,7 +78,7 @@ fn pass_round(round: &Round, line: u64) -> Result<u64, Unbuilt>
     pass_lists(round.commands.as_slice(), line)
 }
 
-fn pass_lists(lists: &[Commands], mut line: u64) -> Result<u64, Unbuilt>
+fn pass_lists(lists: &[Items<Command>], mut line: u64) -> Result<u64, Unbuilt>
     requires { line + length (calls_from 0 lists.now) < 2 ^ 64 }
     ensures { result ≡ passed line (map call_line (calls_from 0 lists.now)) }
 {
@@ -90,7 +90,7 @@ fn pass_lists(lists: &[Commands], mut line: u64) -> Result<u64, Unbuilt>
 
 fn pass_commands(commands: &[Command], mut line: u64) -> Result<u64, Unbuilt>
     requires { line + length commands.now < 2 ^ 64 }
-    ensures { (caller : ℕ) → result ≡ passed line (map (call caller) commands.now) }
+    ensures { (caller : ℕ) → result ≡ passed line (map (trace_line.Call caller) commands.now) }
 {
     for command in commands {
         if !is_built_command(command) {

@@ -4,28 +4,28 @@
 //! has written is the text of one lawful history of a plain allocator, with the blocks that are live
 //! at its end; each other status says why it came and what was written then.
 //!
-//! - `top`, `status`: the calls, and how they end.
-//! - `input`, `reply`, `output`: what is read, what there is to say, and what is written.
+//! - `top`, `job`, `status`: the calls, what they are asked to do, and how they end.
+//! - `input`, `reply`: what is read, and what there is to say.
 //! - `built`: the first line of a trace that isn't served yet.
 //! - `allocator`, `session`, `blocks`, `names`: from a trace to a run of it.
-//! - `laws`, `examples`: what the definitions mean, as contracts of functions that do nothing.
+//! - `laws`: what the definitions mean, as contracts of functions that do nothing.
 #![tactic(auto)]
 
 mod allocator;
 mod blocks;
 mod built;
-pub mod examples;
 mod input;
+pub mod job;
 pub mod laws;
 mod names;
-mod output;
 mod reply;
 mod session;
 pub mod status;
 pub mod top;
 
+pub use job::{Job, RunJob, Tool};
 pub use status::Status;
-pub use top::{RunJob, Tool, mzone_main, run_call, tool_call};
+pub use top::{mzone_main, run_call, tool_call};
 
 #[cfg(test)]
 mod tests;

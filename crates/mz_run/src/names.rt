@@ -6,7 +6,7 @@ ghost use Rattle.mz_base.specs.Names.{is_base_name};
 ghost use Rattle.mz_run.specs.NamesMap.{block_of};
 
 use crate::blocks::Block;
-use mz_trace::BaseName;
+use mz_words::BaseName;
 use std::alloc::{AllocError, Global};
 use std::collections::BTreeMap;
 use std::marker::Model;

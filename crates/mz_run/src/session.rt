@@ -5,8 +5,8 @@ ghost use Rattle.std.specs.List.{list_all};
 ghost use Rattle.mz_base.specs.Names.{is_base_name};
 ghost use Rattle.mz_base.specs.Sizes.{good_size_of};
 ghost use Rattle.mz_base.specs.Space.{block_at, block_end, blocks_apart};
-ghost use Rattle.mz_history.specs.Effect.{still_freed as still_freed_of};
-ghost use Rattle.mz_history.specs.Room.{any_has_room};
+ghost use Rattle.mz_history.specs.Changes.{still_freed as still_freed_of};
+ghost use Rattle.mz_base.specs.Room.{any_has_room};
 ghost use Rattle.mz_run.specs.Blocks.{the_region, region_end, IsQuanta};
 ghost use Rattle.mz_run.specs.Built.{is_built_command};
 ghost use Rattle.mz_run.specs.NamesMap.{block_of};
@@ -14,13 +14,11 @@ ghost use Rattle.mz_run.specs.Session.{IsSound, IsOpened, IsPlace, NamesWith, Ha
 
 use crate::blocks::{Block, Blocks};
 use crate::names::Names;
-use mz_base::{PAGE, Range, ZoneName, units};
+use mz_base::{Items, PAGE, Range, ZoneName, units};
 use mz_history::{Event, Place};
 use mz_io::Gate;
-use mz_trace::{
-    Answer, BaseName, BlockName, CallRecord, Command, Figures, Listed, Listing, Name, Statistics,
-    Step, Steps,
-};
+use mz_trace::{Answer, CallRecord, Command, Figures, Listed, Statistics, Step};
+use mz_words::{BaseName, BlockName, Name};
 use std::alloc::{AllocError, Global};
 use std::sync::Wait;
 
@@ -158,7 +156,7 @@ impl Session {
         self.put(name, Block::new(a, s), 1)?;
         Ok(CallRecord {
             command: Command::Malloc { name, n },
-            steps: Steps::of(steps),
+            steps: Items::of(steps),
             answer: Answer::Block { a, s },
         })
     }
@@ -191,7 +189,7 @@ impl Session {
         self.put(name, Block::new(0, s), 4)?;
         Ok(CallRecord {
             command: Command::Malloc { name, n },
-            steps: Steps::of(steps),
+            steps: Items::of(steps),
             answer: Answer::Block { a: 0, s },
         })
     }
@@ -220,7 +218,7 @@ impl Session {
         self.tickets += 3;
         Ok(CallRecord {
             command: Command::Malloc { name, n },
-            steps: Steps::of(steps),
+            steps: Items::of(steps),
             answer: Answer::Null,
         })
     }
@@ -271,7 +269,7 @@ impl Session {
             command: Command::Free {
                 name: BlockName::new(Name::Base(name)),
             },
-            steps: Steps::of(steps),
+            steps: Items::of(steps),
             answer: Answer::Done,
         })
     }
@@ -369,7 +367,7 @@ impl Session {
             size_allocated: if self.taken { REGION_PAGES * PAGE } else { 0 },
         };
         Ok(Figures {
-            listing: Listing::of(listing(alloc, live, zone)?),
+            listing: Items::of(listing(alloc, live, zone)?),
             statistics,
         })
     }
@@ -423,7 +421,7 @@ fn refused(alloc: Global, command: Command, answer: Answer) -> CallRecord
 {
     CallRecord {
         command,
-        steps: Steps::new(alloc),
+        steps: Items::new(alloc),
         answer,
     }
 }

@@ -1,18 +1,19 @@
 //! The whole of a call, from its words, its source and its sink to its status.
 
-ghost use Rattle.std.specs.Prelude.{◌≡◌, ◌≤◌, ◌++◌, ◌∷◌, [], ◌↔◌, IsTrue, IfOk, IfErr, OnErr, codes, length, map, string_bytes};
+ghost use Rattle.std.specs.Prelude.{◌≡◌, ◌≤◌, ◌++◌, IfOk, IfErr, OnErr, length, map, string_bytes};
 ghost use Rattle.mz_io.specs.Count.{Rose};
 ghost use Rattle.mz_run.specs.Replies.{IsSaid, EndsWith};
 ghost use Rattle.mz_trace.specs.RunTexts.{run_text};
 ghost use Rattle.mz_trace.specs.TailTexts.{tail_text};
-ghost use Rattle.mz_run.specs.Top.{seen, most_bytes, CountsKept, IsBounded, RunSays, RunEnds, CheckSays, CheckEnds, MainEnds, Says};
+ghost use Rattle.mz_run.specs.Top.{seen, most_bytes, CountsKept, IsBounded, RunSays, CheckSays, Says, CallEnds, JobEnds, MainEnds};
 
 use crate::built::unbuilt_line;
 use crate::input::{Input, InputError};
+use crate::job::{Job, RunJob, Tool, job_of};
 use crate::reply::Reply;
 use crate::status::Status;
-use crate::{allocator, input, output};
-use mz_io::{Failed, Gate, Sink, Source};
+use crate::{allocator, input};
+use mz_io::{Failed, Gate, Sink, Source, write_all};
 use mz_trace::{Figures, Run, Tail, TraceFault, parse, print_run};
 use std::alloc::{AllocError, Global};
 use std::sync::Wait;
@@ -30,20 +31,6 @@ const TOO_LONG: &[u8] = b"too long\n";
 /// The output for words that name no job.
 const USAGE: &[u8] =
     b"usage: mzone run | stress SEED COUNT | check | audit | gen SEED COUNT | image | heap | regions\n";
-
-/// What a call is to do.
-#[derive(Clone, Copy, Debug, PartialEq, Eq)]
-pub enum RunJob {
-    /// To run the trace that the source gives.
-    Trace,
-}
-
-/// What a call without threads is to do.
-#[derive(Clone, Copy, Debug, PartialEq, Eq)]
-pub enum Tool {
-    /// To tell whether the source gives a trace.
-    Check,
-}
 
 /// The text of a run, and of what stands behind it.
 fn print_whole(alloc: Global, run: &Run, figures: Figures) -> Result<Vec<u8>, AllocError>
@@ -134,7 +121,7 @@ fn tell<K: Sink>(sink: &mut K, output: &[u8], status: Status) -> Status
     ensures said { IsSaid (K.taken sink.old) (K.taken sink.new) (K.faults sink.old) (K.faults sink.new) status output.now result }
     ensures kept { K.faults sink.old ≤ K.faults sink.new }
 {
-    match output::write_output(sink, output) {
+    match write_all(sink, output) {
         Ok(()) => status,
         Err(Failed) => Status::WriteFault,
     }
@@ -160,7 +147,7 @@ fn run_trace<R: Wait + Sync, S: Source, K: Sink, G: Gate>(
     sink: &mut K,
     gate: &G,
 ) -> Status
-    ensures ends { RunEnds
+    ensures ends { CallEnds RunSays
         (seen (S.left source.old) (S.faults source.old) (K.taken sink.old) (K.faults sink.old))
         (seen (S.left source.new) (S.faults source.new) (K.taken sink.new) (K.faults sink.new)) result }
     ensures counts { CountsKept
@@ -173,7 +160,7 @@ fn run_trace<R: Wait + Sync, S: Source, K: Sink, G: Gate>(
 
 /// Checks the trace that the source gives.
 fn check_trace<S: Source, K: Sink>(alloc: Global, source: &mut S, sink: &mut K) -> Status
-    ensures ends { CheckEnds
+    ensures ends { CallEnds CheckSays
         (seen (S.left source.old) (S.faults source.old) (K.taken sink.old) (K.faults sink.old))
         (seen (S.left source.new) (S.faults source.new) (K.taken sink.new) (K.faults sink.new)) result }
     ensures counts { CountsKept
@@ -197,7 +184,7 @@ pub fn run_call<R: Threads + Wait + Sync, S: Source, K: Sink, G: Gate>(
     sink: &mut K,
     gate: &G,
 ) -> Status
-    ensures ends { RunEnds
+    ensures ends { JobEnds (Job.Run job.now)
         (seen (S.left source.old) (S.faults source.old) (K.taken sink.old) (K.faults sink.old))
         (seen (S.left source.new) (S.faults source.new) (K.taken sink.new) (K.faults sink.new)) result }
     ensures counts { CountsKept
@@ -216,7 +203,7 @@ pub fn tool_call<S: Source, K: Sink>(
     source: &mut S,
     sink: &mut K,
 ) -> Status
-    ensures ends { CheckEnds
+    ensures ends { JobEnds (Job.Tool tool.now)
         (seen (S.left source.old) (S.faults source.old) (K.taken sink.old) (K.faults sink.old))
         (seen (S.left source.new) (S.faults source.new) (K.taken sink.new) (K.faults sink.new)) result }
     ensures counts { CountsKept
@@ -225,16 +212,6 @@ pub fn tool_call<S: Source, K: Sink>(
 {
     match tool {
         Tool::Check => check_trace(alloc, source, sink),
-    }
-}
-
-/// Whether the words are just this one.
-fn are_only(words: &[String], name: &str) -> bool
-    ensures { IsTrue result ↔ (map string_bytes words.now ≡ name.now ∷ []) }
-{
-    match words {
-        [word] => word.as_str() == name,
-        _ => false,
     }
 }
 
@@ -254,11 +231,9 @@ pub fn mzone_main<R: Threads + Wait + Sync, S: Source, K: Sink, G: Gate>(
         (seen (S.left source.old) (S.faults source.old) (K.taken sink.old) (K.faults sink.old))
         (seen (S.left source.new) (S.faults source.new) (K.taken sink.new) (K.faults sink.new)) }
 {
-    if are_only(words, "run") {
-        return run_call(rt, alloc, &RunJob::Trace, source, sink, gate);
+    match job_of(words) {
+        Some(Job::Run(job)) => run_call(rt, alloc, &job, source, sink, gate),
+        Some(Job::Tool(tool)) => tool_call(alloc, &tool, source, sink),
+        None => tell(sink, USAGE, Status::Usage),
     }
-    if are_only(words, "check") {
-        return tool_call(alloc, &Tool::Check, source, sink);
-    }
-    tell(sink, USAGE, Status::Usage)
 }

@@ -1,5 +1,5 @@
 use Rattle.std.proofs.Common.{◌≡◌, ◌<◌, ◌+◌, ◌^◌, ℕ, length, map, drop}
-use Rattle.mz_trace.specs.Lines.{call}
+use Rattle.mz_trace.specs.declared.line.Line.TheVariants as line
 use Rattle.mz_run.specs.Passing.{passed}
 use Rattle.mz_run.proofs.built.pass_commands.Given as goal
 
@@ -7,6 +7,6 @@ use Rattle.mz_run.proofs.built.pass_commands.Given as goal
 abbrev pub invariant-loop-command : goal.invariant-loop-command
 invariant-loop-command l =
     record {
-      same : (caller : ℕ) → passed l.fn.line (map (call caller) l.commands) ≡ passed l.line (map (call caller) (drop l.command-index l.commands));
+      same : (caller : ℕ) → passed l.fn.line (map (line.Call caller) l.commands) ≡ passed l.line (map (line.Call caller) (drop l.command-index l.commands));
       fits : l.line + length (drop l.command-index l.commands) < 2 ^ 64;
     }

@@ -1,11 +1,13 @@
-use Rattle.std.proofs.Common.{refl}
-use Rattle.mz_run.proofs.ReplyLemmas.{other_words, usage_said}
+use Rattle.std.proofs.Common.{Global, map, refl, string_bytes}
+use Rattle.mz_run.specs.Top.{seen}
+use Rattle.mz_run.proofs.ReplyLemmas.{no_job, usage_said}
 use Rattle.mz_run.proofs.top.mzone_main.Goals as goal
 
-pub returns-clause-ends : goal.returns-clause-ends
-returns-clause-ends g c =
-    record {
-      run = λ words. absurd (other_words (c.if-are_only.ensures.1 words));
-      check = λ words. absurd (other_words (c.if-are_only-2.ensures.1 words));
-      others = λ _ _. usage_said _ _ _ (record { left = refl; faults = refl }) c.tell.ensures.said;
-    }
+pub returns-in-None-clause-ends : goal.returns-in-None-clause-ends
+returns-in-None-clause-ends g c =
+    let left = g.S.Source.left c.args.source.now in
+    let faults = g.S.Source.faults c.args.source.now in
+    let before = seen left faults (g.K.Sink.taken c.args.sink.now) (g.K.Sink.faults c.args.sink.now) in
+    let after = seen left faults (g.K.Sink.taken c.tell.new.sink) (g.K.Sink.faults c.tell.new.sink) in
+    no_job (map (string_bytes {Z = Global}) c.args.words.now) c.job_of.result before after c.tell.result c.job_of.ensures c.in-None.is
+    (usage_said before after c.tell.result (record { left = refl; faults = refl }) c.tell.ensures.said)

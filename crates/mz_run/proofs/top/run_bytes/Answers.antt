@@ -1,7 +1,6 @@
 use Rattle.std.proofs.Common.{◌∙◌, ◌++◌, ap, sym, subst}
 use Rattle.mz_trace.specs.declared.tail.Figures.{Figures}
 use Rattle.mz_trace.specs.RunForms.{IsTail}
-use Rattle.mz_trace.proofs.NormalLemmas.{text_is_trace}
 use Rattle.mz_trace.specs.RunTexts.{run_text}
 use Rattle.mz_trace.specs.TailTexts.{tail_text}
 use Rattle.mz_run.proofs.BuiltTexts.{lines_fit, same_unbuilt, text_built}
@@ -21,7 +20,7 @@ returns-in-Some g c =
     }) c.bad_trace-in-Some.ensures
 
 pub serve-requires-clause-trace : goal.serve-requires-clause-trace
-serve-requires-clause-trace g c κs within = text_is_trace c.args.bytes.now c.in-Ok.trace c.in-Ok.ensures.found
+serve-requires-clause-trace g c κs within = c.in-Ok.ensures.trace
 
 pub serve-requires-clause-built : goal.serve-requires-clause-built
 serve-requires-clause-built g c κs within = text_built c.args.bytes.now c.in-Ok.trace c.in-Ok.ensures.found (sym c.in_default.ensures)

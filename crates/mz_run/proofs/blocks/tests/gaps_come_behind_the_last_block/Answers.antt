@@ -2,7 +2,7 @@
 use Rattle.std.proofs.Common.{◌≡◌, true, List, [], refl, sym, subst}
 use Rattle.std.specs.List.{list_all}
 use Rattle.mz_base.specs.Space.{Block, blocks_apart}
-use Rattle.mz_history.specs.Effect.{add_block}
+use Rattle.mz_base.specs.Lists.{add_block}
 use Rattle.mz_run.proofs.BlocksLemmas.{apart-add}
 use Rattle.mz_run.proofs.blocks.tests.gaps_come_behind_the_last_block.Goals as goal
 

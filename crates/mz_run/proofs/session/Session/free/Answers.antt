@@ -1,6 +1,6 @@
 use Rattle.std.proofs.Common.{refl, ap, sym, ◌∙◌}
-use Rattle.mz_trace.specs.declared.name.Name.{Name}
-use Rattle.mz_trace.specs.Names.{name_word}
+use Rattle.mz_words.specs.declared.name.Name.{Name}
+use Rattle.mz_words.specs.Names.{name_word}
 use Rattle.mz_run.specs.NamesMap.{block_of}
 use Rattle.mz_run.specs.Session.{refused_not_held}
 use Rattle.mz_run.proofs.HeldNames.{not_held}

@@ -1,0 +1,5 @@
+mod ServedTests
+mod UndisturbedTest
+mod ResizedTests
+mod OrderTests
+mod CrossingRun

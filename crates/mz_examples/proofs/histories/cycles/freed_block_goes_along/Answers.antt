@@ -1,0 +1,13 @@
+use Rattle.std.proofs.Common.{refl}
+use Rattle.mz_history.specs.State.{look_up, write}
+use Rattle.mz_base.specs.Lists.{insert_by}
+use Rattle.mz_history.specs.Room.{best_fit}
+use Rattle.mz_history.specs.Effect.{write_all, after}
+use Rattle.mz_history.specs.Rules.{keeps}
+use Rattle.mz_history.specs.History.{after_all, by_ticket, first_breach}
+use Rattle.mz_examples.specs.Cycles.{two_regions, served_elsewhere}
+use Rattle.mz_examples.proofs.histories.cycles.freed_block_goes_along.Goals as goal
+
+pub returns : goal.returns
+unfolding look_up write insert_by best_fit write_all after keeps after_all by_ticket first_breach
+returns c = (c.lawful_without_breach.ensures two_regions served_elsewhere).0 refl

@@ -1,0 +1,20 @@
+use Rattle.std.proofs.Common.{refl}
+use Rattle.mz_history.specs.State.{look_up, write}
+use Rattle.mz_base.specs.Lists.{insert_by}
+use Rattle.mz_history.specs.Room.{best_fit}
+use Rattle.mz_history.specs.Effect.{write_all, after}
+use Rattle.mz_history.specs.Rules.{keeps}
+use Rattle.mz_history.specs.History.{after_all, by_ticket, first_breach}
+use Rattle.mz_examples.proofs.histories.edges.large_runs.Goals as goal
+
+pub returns-clause-cached : goal.returns-clause-cached
+unfolding look_up write insert_by best_fit write_all after keeps after_all by_ticket first_breach
+returns-clause-cached c = refl
+
+pub returns-clause-unasked : goal.returns-clause-unasked
+unfolding look_up write insert_by best_fit write_all after keeps after_all by_ticket first_breach
+returns-clause-unasked c = refl
+
+pub returns-clause-part : goal.returns-clause-part
+unfolding look_up write insert_by best_fit write_all after keeps after_all by_ticket first_breach
+returns-clause-part c = refl

@@ -1,0 +1,22 @@
+use Rattle.std.proofs.Common.{refl}
+use Rattle.mz_history.specs.State.{look_up, write}
+use Rattle.mz_base.specs.Lists.{insert_by}
+use Rattle.mz_history.specs.Room.{best_fit}
+use Rattle.mz_history.specs.Effect.{write_all, after}
+use Rattle.mz_history.specs.Rules.{keeps}
+use Rattle.mz_history.specs.History.{after_all, by_ticket, first_breach}
+use Rattle.mz_examples.specs.Examples.{profile_of}
+use Rattle.mz_examples.specs.Edges.{small_block}
+use Rattle.mz_examples.proofs.histories.edges.small_quanta.Goals as goal
+
+pub returns-clause-lawful : goal.returns-clause-lawful
+unfolding look_up write insert_by best_fit write_all after keeps after_all by_ticket first_breach
+returns-clause-lawful c = (c.lawful_without_breach.ensures (profile_of 512) small_block).0 refl
+
+pub returns-clause-live : goal.returns-clause-live
+unfolding look_up write insert_by best_fit write_all after keeps after_all by_ticket first_breach
+returns-clause-live c = refl
+
+pub returns-clause-not_whole : goal.returns-clause-not_whole
+unfolding look_up write insert_by best_fit write_all after keeps after_all by_ticket first_breach
+returns-clause-not_whole c = refl

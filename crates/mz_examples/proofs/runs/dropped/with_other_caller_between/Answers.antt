@@ -1,0 +1,18 @@
+use Rattle.std.proofs.Common.{refl}
+use Rattle.mz_examples.specs.Examples.{magazine}
+use Rattle.mz_examples.specs.RunsServed.{two_regions_for_two, other_before_move}
+use Rattle.mz_history.specs.State.{look_up, write}
+use Rattle.mz_base.specs.Lists.{insert_by}
+use Rattle.mz_history.specs.Room.{best_fit}
+use Rattle.mz_history.specs.Effect.{write_all, after}
+use Rattle.mz_history.specs.Rules.{keeps}
+use Rattle.mz_history.specs.History.{after_all, by_ticket, first_breach}
+use Rattle.mz_examples.proofs.runs.dropped.with_other_caller_between.Goals as goal
+
+pub returns-clause-lawful : goal.returns-clause-lawful
+unfolding look_up write insert_by best_fit write_all after keeps after_all by_ticket first_breach
+returns-clause-lawful c = (c.lawful_without_breach.ensures two_regions_for_two other_before_move).0 refl
+
+pub returns-clause-dropped : goal.returns-clause-dropped
+unfolding look_up write insert_by best_fit write_all after keeps after_all by_ticket first_breach
+returns-clause-dropped c = (magazine, refl, (refl, refl))

@@ -11,10 +11,17 @@ use Rattle.mz_examples.specs.Rows.{second, second_serves}
 abbrev pub regions_for_two_zones : Profile
 regions_for_two_zones = record (profile_of 128) { zones = 2 }
 
--- zone 1 serves a block, and then zone 0 does, each from a region of its own
+-- zone 1 serves a block, and zone 0 has no room for another
+abbrev pub one_serves : List Entry
+one_serves = second_serves ++ entry_of 5 (Full magazine 16 16) ∷ entry_of 6 (Full depot 16 16) ∷ []
+
+-- zone 0 takes a region of its own
+abbrev pub both_have : List Entry
+both_have = one_serves ++ entry_of 7 (Take magazine 64 64) ∷ []
+
+-- and serves the block from it
 abbrev pub both_serve : List Entry
-both_serve =
-    second_serves ++ entry_of 5 (Full magazine 16 16) ∷ entry_of 6 (Full depot 16 16) ∷ entry_of 7 (Take magazine 64 64) ∷ entry_of 8 (New magazine MIB 16 16) ∷ []
+both_serve = both_have ++ entry_of 8 (New magazine MIB 16 16) ∷ []
 
 -- the block of zone 1 ends
 abbrev pub other_ends : List Entry

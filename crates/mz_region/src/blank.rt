@@ -32,7 +32,8 @@ impl<const Q: usize, const N: usize> Model for Blank<Q, N> {
 }
 
 impl<const Q: usize, const N: usize> Blank<Q, N> {
-    /// A blank. This is the only call that takes memory.
+    /// A blank. This is the only call that takes memory. There is nothing to say of the result: that all
+    /// of it is clear is an invariant of the type, and `fit` rests on that.
     pub fn make(alloc: Global) -> Result<Blank<Q, N>, AllocError>
         requires { IsPowerOfTwo Q }
     {

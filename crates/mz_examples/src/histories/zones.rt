@@ -1,19 +1,26 @@
 //! Worked histories of two zones: what *separation* and *locality* say of them isn't empty. The lists stand in
 //! `specs/Zones.antt`.
 
-ghost use Rattle.std.specs.Prelude.{◌≡◌, [], ◌∷◌, false, IsTrue};
+ghost use Rattle.std.specs.Prelude.{◌≡◌, [], ◌∷◌, ◌++◌, false, IsTrue};
 ghost use Rattle.mz_base.specs.Space.{block_at, blocks_apart};
 ghost use Rattle.mz_history.specs.declared.event.Event.TheVariants as event;
 ghost use Rattle.mz_history.specs.Places.{spot_of};
 ghost use Rattle.mz_history.specs.State.{value_at, kept_at, live_blocks};
 ghost use Rattle.mz_history.specs.Effect.{touches};
-ghost use Rattle.mz_history.specs.History.{IsLawfulHistory, state_of};
-ghost use Rattle.mz_examples.specs.Examples.{magazine};
+ghost use Rattle.mz_history.specs.Rules.{takes_lowest, fits_apart};
+ghost use Rattle.mz_history.specs.History.{IsLawfulHistory, breach_of, state_of};
+ghost use Rattle.mz_examples.specs.Examples.{entry_of, breach_at, magazine};
 ghost use Rattle.mz_examples.specs.Cycles.{MIB};
 ghost use Rattle.mz_examples.specs.Rows.{second};
-ghost use Rattle.mz_examples.specs.Zones.{regions_for_two_zones, both_serve, other_ends};
+ghost use Rattle.mz_examples.specs.Zones.{regions_for_two_zones, one_serves, both_have, both_serve, other_ends};
 
 use mz_history::laws::lawful_without_breach;
+
+/// Zone 0 can't take the pages of zone 1's region, nor place a block in it.
+pub fn not_in_two_places()
+    ensures pages { breach_of regions_for_two_zones (one_serves ++ entry_of 7 (event.Take magazine 0 64) ∷ []) ≡ breach_at 7 takes_lowest }
+    ensures block { breach_of regions_for_two_zones (both_have ++ entry_of 8 (event.New magazine 16 16 16) ∷ []) ≡ breach_at 8 fits_apart }
+{}
 
 /// Two live blocks of different zones, each in a region of its own zone, are apart.
 pub fn zones_are_apart()

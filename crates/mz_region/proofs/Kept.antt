@@ -183,7 +183,7 @@ module _ (Q N a : ℕ) (bs us : List Bool) (g : GroundView) (sum count : ℕ) (h
       blocks_row Q a a (a + Q * N) cs vs some_bytes (quantum_aligned Q N a held.at) (omega arith) end
 
   pub region_is : IsRegion Q N (viewed g.space a L)
-  region_is = record { at = held.at; inside = held.inside; small = held.small; row = row_of bs us held.quanta }
+  region_is = record { power = held.power; at = held.at; inside = held.inside; small = held.small; row = row_of bs us held.quanta }
 
   -- the region's bytes, and what it counts, fit
   sum_of : (cs vs : List Bool) → length vs ≡ N → (size_sum (blocks_of Q a cs vs) ≤ Q * N) × (length (blocks_of Q a cs vs) ≤ Q * N)

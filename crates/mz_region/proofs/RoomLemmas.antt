@@ -1,10 +1,10 @@
 -- Fronts and room of idle runs, in quanta and in bytes.
 use Rattle.std.proofs.Common.{◌≡◌, ℕ, ◌+◌, ◌-◌, ◌*◌, ◌/◌, ◌%◌, ◌<◌, ◌≤◌, ◌⊎◌, List, [], ◌∷◌, Bool, true, false, Option, Some, None, MatchOption, length, refl, sym, ap, ◌∙◌, subst, inl, inr, mul-add, arith}
-use Rattle.std.specs.Prelude.{◌&&◌, ◌==◌, IsTrue, map}
+use Rattle.std.specs.Prelude.{◌&&◌, ◌==◌, IsTrue, map, is_some}
 use Rattle.std.specs.List.{All, HoldsAt, list_any}
 use Rattle.std.proofs.Math.Nat.{mul-le-mul_left, mul-mod_left, add-mul-mod_self_left}
 use Rattle.std.proofs.lemmas.Nat.{div-add-mod'}
-use Rattle.std.proofs.lemmas.Bool.{and_from, or_cases, or_left, or_right, eq-eqb, eqb-true, false≢true}
+use Rattle.std.proofs.lemmas.Bool.{and_parts, and_from, or_cases, or_left, or_right, eq-eqb, eqb-true, false≢true, false_from_ne_true}
 use Rattle.std.proofs.lemmas.List.Elements.{All-nil, All-cons, All-head, All-tail, All-weaker}
 use Rattle.mz_base.specs.Space.{Block, block_at, block_end, units_for, least_multiple}
 use Rattle.mz_base.specs.Room.{is_idle, starts_from, has_room_within_from, has_room_within, is_front_within}
@@ -180,3 +180,23 @@ front_of_view Q N a bs us g sum count held old base step al n e at filled some w
       ∙ ap (λ (v : RegionView). is_front_within v.first (v.first + Q * N) v.live (block_at (v.first + Q * q) (Q * n)) (Q * step)) (sym e) ∙ front_test Q N a bs us g sum count held base step n at filled some q said,
   ap (λ (v : RegionView). is_idle v.first (v.first + Q * N) v.live (v.first + Q * q) (v.first + Q * q + Q * n)) (sym e) ∙ idle_test Q N a bs us g sum count held base step n at filled some q said,
 )
+
+-- where a block is at a front, there is room for it
+some_front_has_room : (start end : ℕ) (L : List Block) (b : Block) (al : ℕ) (xs : List ℕ) → list_any (λ x. (least_multiple al x == b.first) && has_room_within_from start end L b.size al x) xs ≡ true → list_any (has_room_within_from start end L b.size al) xs ≡ true
+some_front_has_room start end L b al [] h = absurd (false≢true h)
+some_front_has_room start end L b al (x ∷ xs) h =
+    elim (or_cases ((least_multiple al x == b.first) && has_room_within_from start end L b.size al x) (list_any (λ y. (least_multiple al y == b.first) && has_room_within_from start end L b.size al y) xs) h) [
+      | inl here ↦ or_left (has_room_within_from start end L b.size al x) (list_any (has_room_within_from start end L b.size al) xs) (and_parts (least_multiple al x == b.first) (has_room_within_from start end L b.size al x) here).1
+      | inr later ↦ or_right (has_room_within_from start end L b.size al x) (list_any (has_room_within_from start end L b.size al) xs) (some_front_has_room start end L b al xs later)
+    ]
+
+pub front_has_room : (start end : ℕ) (L : List Block) (b : Block) (al : ℕ) → is_front_within start end L b al ≡ true → has_room_within start end L b.size al ≡ true
+front_has_room start end L b al h = some_front_has_room start end L b al (starts_from start L) h
+
+-- whether a search finds something is whether there is room
+pub found_is_room : (Q N al n : ℕ) (old : RegionView) (r : Option ℕ) → MatchOption r (IsTrue (has_room_within old.first (old.first + Q * N) old.live (Q * n) al) → ⊥)
+    (λ q. IsTrue (is_front_within old.first (old.first + Q * N) old.live (block_at (old.first + Q * q) (Q * n)) al)
+    × IsTrue (is_idle old.first (old.first + Q * N) old.live (old.first + Q * q) (old.first + Q * q + Q * n)))
+    → has_room_within old.first (old.first + Q * N) old.live (Q * n) al ≡ is_some r
+found_is_room Q N al n old None said = false_from_ne_true (has_room_within old.first (old.first + Q * N) old.live (Q * n) al) said
+found_is_room Q N al n old (Some q) said = front_has_room old.first (old.first + Q * N) old.live (block_at (old.first + Q * q) (Q * n)) al said.0

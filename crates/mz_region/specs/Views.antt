@@ -1,6 +1,7 @@
 -- What a clause sees of a region, and what becomes of it. This project's own.
 use Rattle.std.specs.Prelude.{◌≡◌, ℕ, ◌+◌, ◌*◌, ◌<◌, ◌≤◌, ◌%◌, ◌^◌, List, [], ◌∷◌, length, refl}
 use Rattle.std.specs.Coded.{Coded, code_by, coded×, coded_list, coded_ℕ}
+use Rattle.std.specs.Int.{IsPowerOfTwo}
 use Rattle.mz_base.specs.Site.{Site, site_code}
 use Rattle.mz_base.specs.Space.{Block, block_at, block_end}
 use Rattle.mz_base.specs.Codes.{block_code}
@@ -25,9 +26,10 @@ abbrev pub AreInRow : ℕ → ℕ → ℕ → List Block → Type 0
 AreInRow Q start end [] = start ≤ end
 AreInRow Q start end (b ∷ bs) = (start ≤ b.first) × (b.first % Q ≡ 0) × (0 < b.size) × (b.size % Q ≡ 0) × AreInRow Q (block_end b) end bs
 
--- what holds of each region of N quanta of Q bytes: it begins at a multiple of its length, lies in its space, which fits the
--- machine, and its live blocks are in a row in it
+-- what holds of each region of N quanta of Q bytes: a quantum's bytes are a power of two, it begins at a multiple of its
+-- length, lies in its space, which fits the machine, and its live blocks are in a row in it
 pub record IsRegion (Q N : ℕ) (r : RegionView) : Type 0 where
+  pub power : IsPowerOfTwo Q
   pub at : r.first % (Q * N) ≡ 0
   pub inside : r.first + Q * N ≤ r.space.size
   pub small : r.space.size < 2 ^ 63

@@ -17,7 +17,8 @@ use std::marker::Model;
 /// `N` quanta of `Q` bytes in a row, some of them in live blocks. Contracts see the region's space,
 /// its first address there, and its live blocks in the order of their addresses.
 ///
-/// A block is given out as the span of its bytes, so nobody else can reach them.
+/// A block is given out as the span of its bytes, so nobody else can reach them. What holds of each region
+/// is a clause of `first`.
 #[derive(Drop)]
 pub struct Region<const Q: usize, const N: usize> {
     pub(crate) first: u64,
@@ -85,6 +86,25 @@ impl<const Q: usize, const N: usize> Region<Q, N> {
         }
     }
 
+    /// Whether some idle run has `n` quanta: whether `alloc` would answer a block.
+    pub fn has_room(&self, n: u64) -> bool
+        requires { IsFrom 1 64 n }
+        ensures { result ≡ has_room_within self.now.first (self.now.first + Q * N) self.now.live (Q * n) Q }
+    {
+        self.front_of_room(n, Q as u64).is_some()
+    }
+
+    /// Whether some idle run has room for `n` quanta at its first multiple of `al`, in bytes: whether
+    /// `alloc_aligned` would answer a block.
+    pub fn has_room_at(&self, n: u64, al: u64) -> bool
+        requires quanta { IsFrom 1 64 n }
+        requires power { IsPowerOfTwo al }
+        requires range { IsFrom Q 16384 al }
+        ensures { result ≡ has_room_within self.now.first (self.now.first + Q * N) self.now.live (Q * n) al }
+    {
+        self.front_of_room(n, al).is_some()
+    }
+
     /// A new block of `n` quanta at the front of an idle run, or None where no idle run has room.
     /// Today it is the lowest idle run with room. That is not promised: free lists by size, which
     /// are to take the place of the search, give another.
@@ -143,18 +163,19 @@ impl<const Q: usize, const N: usize> Region<Q, N> {
     }
 
     /// Makes a block one of `n` quanta, in place. It answers false, and changes nothing, where one
-    /// of the quanta that it would take is outside the region or in another live block. The bytes
-    /// that stay are kept.
+    /// of the quanta that it would take is outside the region or in another live block. A shrink is
+    /// always done. The bytes that stay are kept.
     pub fn resize(&mut self, s: &mut Span, n: u64) -> bool
         requires live { IsTrue (has_block self.old.live (block_at s.old.first (length s.old.bytes))) }
         requires space { s.old.space ≡ self.old.space }
         requires quanta { IsFrom 1 64 n }
-        ensures { let b = block_at s.old.first (length s.old.bytes) in
+        ensures resized { let b = block_at s.old.first (length s.old.bytes) in
             let idle = is_idle self.old.first (self.old.first + Q * N) (drop_block b self.old.live) b.first (b.first + Q * n) in MatchBool result
             (IsTrue idle × (self.new ≡ record self.old { live = add_block (block_at b.first (Q * n)) (drop_block b self.old.live) })
             × (s.new.space ≡ s.old.space) × (s.new.first ≡ s.old.first) × (length s.new.bytes ≡ Q * n)
             × (take (min b.size (Q * n)) s.new.bytes ≡ take (min b.size (Q * n)) s.old.bytes))
             (¬ IsTrue idle × (self.new ≡ self.old) × (s.new ≡ s.old)) }
+        ensures shrinks { Q * n ≤ length s.old.bytes → IsTrue result }
     {
         let q = (s.first() - self.first) / Q as u64;
         let had = s.len() / Q as u64;

@@ -5,8 +5,8 @@ ghost use Rattle.mz_region.specs.Search.{front_from, IsRoomAt, IsFrontAt};
 
 use mz_bits::Bits;
 
-/// The front of the lowest idle run with room for `n` quanta at a multiple of `step`, where the first
-/// quantum is the `base`-th of its space.
+/// The front of an idle run with room for `n` quanta at a multiple of `step`, where the first quantum is
+/// the `base`-th of its space. It is the lowest such run, which no clause says.
 pub(crate) fn front_of_room(in_use: &Bits, base: u64, step: u64, n: u64) -> Option<u64>
     requires some { 1 ≤ n }
     requires step { 1 ≤ step }

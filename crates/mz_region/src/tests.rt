@@ -14,6 +14,12 @@ mod plain;
 
 fn is_send_and_sync<T: Send + Sync + Drop>(_value: T) {}
 
+/// Regions and blanks can be shared and moved between threads, whatever their quanta.
+fn are_send_and_sync<const Q: usize, const N: usize>(region: Region<Q, N>, blank: Blank<Q, N>) {
+    is_send_and_sync(region);
+    is_send_and_sync(blank);
+}
+
 /// What a region and the plain list answer.
 type Answers = (Option<(u64, u64)>, Option<(u64, u64)>);
 
@@ -224,7 +230,6 @@ fn only_a_whole_block_is_taken_back(rt: HostRuntime) -> Result<(), Fail> {
         return Err(Fail::new("no block is live"));
     };
     assert_eq!(rt; (ours.first(), ours.len()), (0, 1024));
-    is_send_and_sync(blank.fit(ours));
-    is_send_and_sync(Blank::<16, 64>::make(rt.alloc())?);
+    are_send_and_sync(blank.fit(ours), Blank::<16, 64>::make(rt.alloc())?);
     Ok(())
 }

@@ -1,4 +1,4 @@
-use Rattle.std.proofs.Common.{◌≡◌, ◌+◌, ◌-◌, ◌*◌, ◌/◌, ◌≤◌, length, sym, ap, ◌∙◌, subst, lit<, arith}
+use Rattle.std.proofs.Common.{◌≡◌, refl, ◌+◌, ◌-◌, ◌*◌, ◌/◌, ◌≤◌, length, sym, ap, ◌∙◌, subst, lit<, arith}
 use Rattle.std.proofs.Math.Nat.{mul-le-mul_left}
 use Rattle.mz_base.specs.Space.{block_at}
 use Rattle.mz_region.specs.Views.{RegionView}
@@ -41,8 +41,8 @@ grow-requires g c =
     let some : 1 ≤ c.len.result / g.row.Q = subst (λ m. 1 ≤ m / g.row.Q) (sym n) is.some in
     (lit< tt, (some, (c.if-n-had.false, (c.requires.quanta.1, (c.requires.space, (at, (long, is.size ∙ long)))))))
 
-pub returns-then-n-had : goal.returns-then-n-had
-returns-then-n-had g c =
+pub returns-then-n-had-clause-resized : goal.returns-then-n-had-clause-resized
+returns-then-n-had-clause-resized g c =
     let i = c.self.inside in
     let held = c.self.invariant in
     let is = whole_block g.row.Q g.row.N i.first i.begins i.in_use i.ground i.live_bytes i.count held c.args.self.now c.self.view_is (block_at c.args.s.now.first (length c.args.s.now.bytes)) c.requires.live in
@@ -60,3 +60,6 @@ returns-then-n-had g c =
       c.shrink.ensures.len,
       kept_bytes c.args.s.now.bytes c.shrink.new.s.bytes (g.row.Q * c.args.n) (length c.args.s.now.bytes) c.shrink.ensures.bytes (omega arith),
     )
+
+pub returns-then-n-had-clause-shrinks : goal.returns-then-n-had-clause-shrinks
+returns-then-n-had-clause-shrinks g c h = refl

@@ -35,7 +35,7 @@ resize-requires g c =
 pub invariant_of-self-2 : goal.invariant_of-self-2
 invariant_of-self-2 g c =
     let i = c.self.inside in
-    let same = both_cases c.resize.result _ _ (c.resize.new.self.space ≡ i.region.space) c.resize.ensures (λ y. ap (λ (r : RegionView). r.space) y.1) (λ n. ap (λ (r : RegionView). r.space) n.1) in
+    let same = both_cases c.resize.result _ _ (c.resize.new.self.space ≡ i.region.space) c.resize.ensures.resized (λ y. ap (λ (r : RegionView). r.space) y.1) (λ n. ap (λ (r : RegionView). r.space) n.1) in
     let left : All (Of i.region.space) (remove i.spans.items c.args.i) =
     All-append (Of i.region.space) (take c.args.i i.spans.items) (drop (suc c.args.i) i.spans.items) (All-take (Of i.region.space) c.args.i i.spans.items c.self.invariant) (All-drop (Of i.region.space) (suc c.args.i) i.spans.items c.self.invariant) in
     All-same (Of c.resize.new.self.space) c.remove-span.new.self.items (remove i.spans.items c.args.i) c.remove-span.ensures.items

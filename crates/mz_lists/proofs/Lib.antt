@@ -1,0 +1,8 @@
+pub mod WordLemmas
+pub mod ChainLemmas
+pub mod MapLemmas
+pub mod SlotLemmas
+pub mod KeptLemmas
+pub mod PutLemmas
+pub mod TakeLemmas
+pub mod PlainLemmas

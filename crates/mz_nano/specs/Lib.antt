@@ -1,0 +1,11 @@
+pub mod Lists
+pub mod Rule
+pub mod StepEffects
+pub mod StepNeeds
+pub mod SeatMoves
+pub mod CallEffects
+pub mod SlotViews
+pub mod SeatLists
+pub mod Deals
+pub mod Laid
+pub mod Ended

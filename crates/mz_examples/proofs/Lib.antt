@@ -1,5 +1,6 @@
 mod ServedTests
 mod UndisturbedTest
 mod ResizedTests
-mod OrderTests
-mod CrossingRun
+mod RunTests
+mod SpoiledRuns
+mod MeetsTest

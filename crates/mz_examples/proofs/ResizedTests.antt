@@ -1,8 +1,8 @@
 -- Tests that each way of giving a block another size passes, for the worked examples: where one fails, it doesn't fit.
-use Rattle.std.proofs.Common.{◌≡◌, ℕ, ◌+◌, ◌<◌, ◌≤◌, Bool, true, false, not, List, [], ◌∷◌, ◌++◌, Option, Some, None, refl, ap, sym, subst, ◌∙◌, length, arith, inl, inr}
-use Rattle.std.specs.Prelude.{◌==◌, ◌&&◌, ◌||◌, nat_lt, nat_le, Contains}
+use Rattle.std.proofs.Common.{◌≡◌, ℕ, ◌+◌, ◌<◌, Bool, true, false, not, List, [], ◌∷◌, ◌++◌, Option, Some, None, refl, ap, sym, subst, ◌∙◌, arith, inl, inr}
+use Rattle.std.specs.Prelude.{◌==◌, ◌&&◌, ◌||◌, nat_lt}
 use Rattle.std.specs.List.{list_any, list_all}
-use Rattle.std.proofs.lemmas.Bool.{eq-eqb, eqb-true, not-true, lt-ltb, ltb-true, leb-true, and_from, and_parts, or_cases, or_left, or_right, cond_both, false≢true}
+use Rattle.std.proofs.lemmas.Bool.{eq-eqb, not-true, lt-ltb, and_from, and_parts, or_cases, or_left, or_right, cond_both, false≢true}
 use Rattle.std.proofs.lemmas.List.{map-append}
 use Rattle.mz_base.specs.declared.profile.Profile.{Profile}
 use Rattle.mz_base.specs.declared.range.Range.{Range}
@@ -12,13 +12,15 @@ use Rattle.mz_base.specs.Space.{Block, block_at, same_block, blocks_apart}
 use Rattle.mz_history.specs.declared.event.Event.{Event}
 use Rattle.mz_history.specs.declared.event.Event.TheVariants.{End, Size}
 use Rattle.mz_history.specs.declared.entry.Entry.{Entry}
-use Rattle.mz_history.specs.Places.{Spot, same_spot, spot_of, zone_of, place_of}
+use Rattle.mz_history.specs.Places.{Spot, same_spot, spot_of}
 use Rattle.mz_history.specs.State.{State, Kept, Value, look_up}
 use Rattle.mz_base.specs.Lists.{has_block}
 use Rattle.mz_base.specs.Room.{lies_in}
-use Rattle.mz_run.specs.Fitting.{events, IsServed, IsDropped}
-use Rattle.mz_run.specs.Resizing.{Standpoint, entries_before, entries_from, IsMoment, IsLiveIn, IsHemmedIn, IsOfOneRange, state_at, stays_large, lies_in_nano_pages, moving_request, Moves, to_nothing, between_ranges, out_of_nano, large, hemmed_in, IsResized, same_size, in_place, still_large, moved, not_moved}
-use Rattle.mz_examples.proofs.UndisturbedTest.{all_at, flipped, spots_same}
+use Rattle.mz_record.specs.Moments.{state_at}
+use Rattle.mz_record.specs.Served.{events, IsServed}
+use Rattle.mz_record.specs.Dropped.{IsDropped}
+use Rattle.mz_record.specs.Resized.{IsHemmedIn, WasHemmedIn, IsOfOneRange, stays_large, lies_in_nano_pages, moving_request, Moves, to_nothing, between_ranges, out_of_nano, large, hemmed_in, same_size, in_place, still_large, moved, not_moved, IsReallocated}
+use Rattle.mz_examples.proofs.UndisturbedTest.{flipped}
 
 -- an event ends a block
 abbrev pub is_end : Event → Bool
@@ -68,103 +70,57 @@ some_none x P h = cc
 none_some : {A : Type 0} (x : A) (P : Type 0) → ◌≡◌ {A = Option A} None (Some x) → P
 none_some x P h = cc
 
-module _ (p : Profile) (h : List Entry) (c : ℕ) (w : Standpoint) (z : ℕ) (b : Block) (n : ℕ) (es : List Entry) where
+module _ (p : Profile) (h : List Entry) (low high c z : ℕ) (b : Block) (n : ℕ) (es : List Entry) where
   -- where a block ends, it is a move
-  pub ends_then_moves : (got : Option Block) → IsResized p h c w z b n es got → has_end (events es) ≡ true → Moves p h c w b n
-  ends_then_moves got (same_size asked size none is) ends = absurd (false≢true (sym (ap (λ (xs : List Entry). has_end (events xs)) none) ∙ ends))
-  ends_then_moves got (in_place k one other all is) ends = absurd (false≢true (sym (ap has_end all) ∙ ends))
-  ends_then_moves got (still_large old new stays none is) ends = absurd (false≢true (sym (ap (λ (xs : List Entry). has_end (events xs)) none) ∙ ends))
-  ends_then_moves got (moved d news olds moves whole served free dropped is) ends = moves
-  ends_then_moves got (not_moved moves served free is) ends = moves
+  pub ends_then_moves : (got : Option Block) → IsReallocated p h low high c z b n es got → has_end (events es) ≡ true → Moves p h low high b n
+  ends_then_moves got (inl (same_size asked size none is)) ends = absurd (false≢true (sym (ap (λ (xs : List Entry). has_end (events xs)) none) ∙ ends))
+  ends_then_moves got (inl (in_place k one other all is)) ends = absurd (false≢true (sym (ap has_end all) ∙ ends))
+  ends_then_moves got (inl (still_large old new stays none is)) ends = absurd (false≢true (sym (ap (λ (xs : List Entry). has_end (events xs)) none) ∙ ends))
+  ends_then_moves got (inr (moved d news olds moves whole served dropped is)) ends = moves
+  ends_then_moves got (inr (not_moved moves served is)) ends = moves
 
   -- where none ends, the block stays
-  pub no_end_then_stays : (d : Block) → IsResized p h c w z b n es (Some d) → has_end (events es) ≡ false → stays_well p b n (events es) d ≡ true
-  no_end_then_stays d (same_size asked size none is) no_end =
+  pub no_end_then_stays : (d : Block) → IsReallocated p h low high c z b n es (Some d) → has_end (events es) ≡ false → stays_well p b n (events es) d ≡ true
+  no_end_then_stays d (inl (same_size asked size none is)) no_end =
       ap (λ (xs : List Entry). stays_well p b n (events xs) d) none
       ∙ and_from (same_block b d) _ (same-block b d (some_of d b is))
       (or_left (nat_lt 0 n && (good_size_of n == b.size)) _ (and_from (nat_lt 0 n) (good_size_of n == b.size) (lt-ltb 0 n asked) (eq-eqb (good_size_of n) b.size size)))
-  no_end_then_stays d (in_place k one other all is) no_end =
+  no_end_then_stays d (inl (in_place k one other all is)) no_end =
       ap (λ (xs : List Event). stays_well p b n xs d) all
       ∙ and_from (good_size_of n == good_size_of n) _ (eq-eqb (good_size_of n) (good_size_of n) refl)
       (and_from (nat_lt 0 n) _ (lt-ltb 0 n one.asked)
       (and_from (not (lies_in_nano_pages p b)) _ one.in_region (same-block (block_at b.first (good_size_of n)) d (some_of d (block_at b.first (good_size_of n)) is))))
-  no_end_then_stays d (still_large old new stays none is) no_end =
+  no_end_then_stays d (inl (still_large old new stays none is)) no_end =
       ap (λ (xs : List Entry). stays_well p b n (events xs) d) none
       ∙ and_from (same_block b d) _ (same-block b d (some_of d b is))
       (or_right (nat_lt 0 n && (good_size_of n == b.size)) _ (and_from (is_large_range (route_of n)) (stays_large b.size (good_size_of n)) (ap is_large_range new) stays))
-  no_end_then_stays d (moved e news olds moves whole served free dropped is) no_end =
+  no_end_then_stays d (inr (moved e news olds moves whole served dropped is)) no_end =
       absurd (false≢true (sym no_end ∙ moved_ends p h b es news olds whole dropped))
-  no_end_then_stays d (not_moved moves served free is) no_end = some_none d _ is
+  no_end_then_stays d (inr (not_moved moves served is)) no_end = some_none d _ is
 
   -- a request that gets none stands behind a block that gets none
-  pub none_then_served : IsResized p h c w z b n es None → IsServed p h (moving_request c z n) es None
-  none_then_served (same_size asked size none is) = none_some b _ is
-  none_then_served (in_place k one other all is) = none_some (block_at b.first (good_size_of n)) _ is
-  none_then_served (still_large old new stays none is) = none_some b _ is
-  none_then_served (moved d news olds moves whole served free dropped is) = none_some d _ is
-  none_then_served (not_moved moves served free is) = served
-
--- the moment at which the block was hemmed in
-pub record Hemmed (p : Profile) (h : List Entry) (c : ℕ) (w : Standpoint) (b : Block) (n : ℕ) : Type 0 where
-  pub t : ℕ
-  pub moment : IsMoment h c w t
-  pub more : b.size < good_size_of n
-  pub hemmed : IsHemmedIn (state_at p h t) b (good_size_of n)
+  pub none_then_served : IsReallocated p h low high c z b n es None → IsServed p h (moving_request c z n) es None
+  none_then_served (inl (same_size asked size none is)) = none_some b _ is
+  none_then_served (inl (in_place k one other all is)) = none_some (block_at b.first (good_size_of n)) _ is
+  none_then_served (inl (still_large old new stays none is)) = none_some b _ is
+  none_then_served (inr (moved d news olds moves whole served dropped is)) = none_some d _ is
+  none_then_served (inr (not_moved moves served is)) = served.served
 
 -- within a range a block moves only where it was hemmed in
-pub hemmed_at : (p : Profile) (h : List Entry) (c : ℕ) (w : Standpoint) (b : Block) (n : ℕ) → IsOfOneRange p b n → Moves p h c w b n → Hemmed p h c w b n
-hemmed_at p h c w b n one (to_nothing none) = absurd (let asked = one.asked in omega (arith, asked, none))
-hemmed_at p h c w b n one (between_ranges other apart) = absurd (apart one.ranges)
-hemmed_at p h c w b n one (out_of_nano other inside) = absurd (flipped (lies_in_nano_pages p b) inside one.in_region)
-hemmed_at p h c w b n one (large old new wastes) = absurd (one.not_large new)
-hemmed_at p h c w b n one (hemmed_in t same more moment hemmed) = record { t = t; moment = moment; more = more; hemmed = hemmed }
+pub hemmed_at : (p : Profile) (h : List Entry) (low high : ℕ) (b : Block) (n : ℕ) → IsOfOneRange p b n → Moves p h low high b n → (b.size < good_size_of n) × WasHemmedIn p h low high b (good_size_of n)
+hemmed_at p h low high b n one (to_nothing none) = absurd (let asked = one.asked in omega (arith, asked, none))
+hemmed_at p h low high b n one (between_ranges other apart) = absurd (apart one.ranges)
+hemmed_at p h low high b n one (out_of_nano other inside) = absurd (flipped (lies_in_nano_pages p b) inside one.in_region)
+hemmed_at p h low high b n one (large old new wastes) = absurd (one.not_large new)
+hemmed_at p h low high b n one (hemmed_in same more hemmed) = (more, hemmed)
 
 -- a large block moves only where it wastes too much
-pub wastes_then : (p : Profile) (h : List Entry) (c : ℕ) (w : Standpoint) (b : Block) (n : ℕ) → route_of b.size ≡ range.Large → route_of n ≡ range.Large → 0 < n → lies_in_nano_pages p b ≡ false → Moves p h c w b n → stays_large b.size (good_size_of n) ≡ false
-wastes_then p h c w b n old new asked below (to_nothing none) = absurd (omega (arith, asked, none))
-wastes_then p h c w b n old new asked below (between_ranges other apart) = absurd (apart (old ∙ sym new))
-wastes_then p h c w b n old new asked below (out_of_nano other inside) = absurd (false≢true (sym below ∙ inside))
-wastes_then p h c w b n old new asked below (large one two wastes) = not-true (stays_large b.size (good_size_of n)) wastes
-wastes_then p h c w b n old new asked below (hemmed_in t one more moment hemmed) = absurd (one.not_large new)
-
--- wherever the block is live it is in this zone
-abbrev pub is_of_zone : List (Spot × Value) → Block → ℕ → Bool
-is_of_zone values b z = list_all (λ (pair : Spot × Value). not (has_block pair.1.kept.live b) || (zone_of (place_of pair.0) == z)) values
-
-zone_at : (values : List (Spot × Value)) (b : Block) (z : ℕ) (j : Spot) → is_of_zone values b z ≡ true → has_block (look_up values j).kept.live b ≡ true → zone_of (place_of j) ≡ z
-unfolding look_up
-zone_at [] b z j all = λ live. absurd (false≢true live)
-zone_at (pair ∷ pairs) b z j all =
-    let parts = and_parts (not (has_block pair.1.kept.live b) || (zone_of (place_of pair.0) == z)) (is_of_zone pairs b z) all in
-    cond_both (same_spot j pair.0) pair.1 (look_up pairs j) (λ (v : Value). has_block v.kept.live b ≡ true → zone_of (place_of j) ≡ z)
-    (λ here live.
-    elim (or_cases (not (has_block pair.1.kept.live b)) (zone_of (place_of pair.0) == z) parts.0) [
-      | inl dead ↦ absurd (flipped (has_block pair.1.kept.live b) live dead)
-      | inr zone ↦ ap (λ (k : Spot). zone_of (place_of k)) (spots_same j pair.0 here) ∙ eqb-true (zone_of (place_of pair.0)) z zone
-    ])
-    (λ elsewhere. zone_at pairs b z j parts.1)
-
--- so that is its zone
-pub only_zone : (p : Profile) (h : List Entry) (c : ℕ) (w : Standpoint) (b : Block) (z t y : ℕ) → ((u : ℕ) → IsMoment h c w u → u ≡ t) → is_of_zone (state_at p h t).values b y ≡ true → IsLiveIn p h c w b z → z ≡ y
-only_zone p h c w b z t y only all lives =
-    let at : lives.t ≡ t = only lives.t lives.moment in
-    sym lives.zone
-    ∙ zone_at (state_at p h t).values b y lives.spot all (subst (λ (u : ℕ). has_block (look_up (state_at p h u).values lives.spot).kept.live b ≡ true) at lives.live)
-
-pub moment_by_test :
-    (h : List Entry) (c : ℕ) (w : Standpoint) (t : ℕ) → t ≤ length h → list_all (λ e. nat_lt e.ticket t) (entries_before c w) ≡ true
-    → list_all (λ e. nat_le t e.ticket) (entries_from c w) ≡ true → IsMoment h c w t
-moment_by_test h c w t within before behind = record {
-  within = within;
-  has = λ e at. ltb-true e.ticket t (all_at (λ (d : Entry). nat_lt d.ticket t) (entries_before c w) e before at);
-  lacks = λ e at. leb-true t e.ticket (all_at (λ (d : Entry). nat_le t d.ticket) (entries_from c w) e behind at);
-}
-
--- between two tickets that follow one another there is one moment
-pub only_moment :
-    (h : List Entry) (c : ℕ) (w : Standpoint) (t : ℕ) (e d : Entry) → Contains (entries_before c w) e → Contains (entries_from c w) d → d.ticket ≡ e.ticket + 1
-    → IsMoment h c w t → t ≡ d.ticket
-only_moment h c w t e d at_e at_d next moment = let low = moment.has e at_e in let high = moment.lacks d at_d in omega (arith, low, high, next)
+pub wastes_then : (p : Profile) (h : List Entry) (low high : ℕ) (b : Block) (n : ℕ) → route_of b.size ≡ range.Large → route_of n ≡ range.Large → 0 < n → lies_in_nano_pages p b ≡ false → Moves p h low high b n → stays_large b.size (good_size_of n) ≡ false
+wastes_then p h low high b n old new asked below (to_nothing none) = absurd (omega (arith, asked, none))
+wastes_then p h low high b n old new asked below (between_ranges other apart) = absurd (apart (old ∙ sym new))
+wastes_then p h low high b n old new asked below (out_of_nano other inside) = absurd (false≢true (sym below ∙ inside))
+wastes_then p h low high b n old new asked below (large one two wastes) = not-true (stays_large b.size (good_size_of n)) wastes
+wastes_then p h low high b n old new asked below (hemmed_in one more hemmed) = absurd (one.not_large new)
 
 -- a place has room for the block to grow to n bytes
 abbrev pub has_room_in : Kept → Block → ℕ → Bool
@@ -190,3 +146,14 @@ room_at (pair ∷ pairs) b n j room =
 -- so it isn't hemmed in
 pub not_hemmed : (s : State) (b : Block) (n : ℕ) → has_room_everywhere s.values b n ≡ true → IsHemmedIn s b n → ⊥
 not_hemmed s b n room (k, kind, live, hemmed) = room_at s.values b n (spot_of k) room live hemmed
+
+-- A block that had room after the first t entries doesn't move within its region where only those count.
+pub stays_with_room :
+    (p : Profile) (h : List Entry) (t : ℕ) (b : Block) (n : ℕ) → IsOfOneRange p b n → has_room_everywhere (state_at p h t).values b (good_size_of n) ≡ true
+    → Moves p h t t b n → ⊥
+stays_with_room p h t b n one room moves =
+    let was = (hemmed_at p h t t b n one moves).1 in
+    let low = was.not_before in
+    let high = was.not_after in
+    let here : was.t ≡ t = omega (arith, low, high) in
+    not_hemmed (state_at p h t) b (good_size_of n) room (subst (λ (u : ℕ). IsHemmedIn (state_at p h u) b (good_size_of n)) here was.hemmed)

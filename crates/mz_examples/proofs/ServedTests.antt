@@ -18,8 +18,8 @@ use Rattle.mz_history.specs.Places.{spot_of, depot_of, is_nano, same_place}
 use Rattle.mz_history.specs.State.{kept_at}
 use Rattle.mz_history.specs.Room.{best_fit}
 use Rattle.mz_history.specs.Changes.{run_of}
-use Rattle.mz_run.specs.Moments.{state_before, duty_left}
-use Rattle.mz_run.specs.Fitting.{Request, Regional, regional_in, regional_for, IsForLarge, size_for, events, AreFlushes, IsServed, by_nano, by_magazine, by_depot, by_fresh_region, null_in_range, by_cache, by_fresh_run, null_in_large, is_dry}
+use Rattle.mz_record.specs.Moments.{state_before, duty_left}
+use Rattle.mz_record.specs.Served.{Request, Regional, regional_in, regional_for, IsForLarge, size_for, events, AreFlushes, IsServed, by_nano, by_magazine, by_depot, by_fresh_region, null_in_range, by_cache, by_fresh_run, null_in_large, is_dry}
 
 -- the last of a list, or none
 abbrev pub last_of : {A : Type 0} → List A → Option A

@@ -10,7 +10,7 @@ use Rattle.mz_history.specs.declared.place.Place.{Place}
 use Rattle.mz_history.specs.declared.place.Place.TheVariants.{Pages, Tiny, TinyDepot, Small, SmallDepot, Large, Nano}
 use Rattle.mz_history.specs.Places.{Spot, keeper_at, nano_page, same_place, same_spot}
 use Rattle.mz_history.specs.Effect.{touched}
-use Rattle.mz_run.specs.Fitting.{is_dry, IsUndisturbed}
+use Rattle.mz_record.specs.Served.{is_dry, IsUndisturbed}
 
 -- an element of a list is its first, or one of the others
 pub contains_first : {A : Type 0} (y : A) (ys : List A) (x : A) → Contains (y ∷ ys) x → (y ≡ x) ⊎ Contains ys x

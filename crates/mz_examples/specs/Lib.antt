@@ -3,6 +3,11 @@ pub mod Cycles
 pub mod Rows
 pub mod Edges
 pub mod Zones
+pub mod Records
+pub mod Spoiled
 pub mod RunsServed
 pub mod RunsResized
 pub mod RunsRounds
+pub mod RunsRows
+pub mod RunsZones
+pub mod RunsBytes

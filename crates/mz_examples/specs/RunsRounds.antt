@@ -12,7 +12,7 @@ use Rattle.mz_trace.specs.declared.round.RoundLine.TheVariants.{Zone}
 use Rattle.mz_trace.specs.declared.run.RunRound.{RunRound}
 use Rattle.mz_trace.specs.declared.run.Run.{Run}
 use Rattle.mz_examples.specs.RunsServed.{two_callers_in_8_pages, both_full, dry_at}
-use Rattle.mz_examples.specs.RunsResized.{step_of, record_of, round_of_records}
+use Rattle.mz_examples.specs.Records.{step_of, record_of, round_of_records}
 
 -- Caller 0 makes a block of 112 bytes; at these tickets.
 abbrev pub makes_block : ℕ → ℕ → ℕ → ℕ → List Entry

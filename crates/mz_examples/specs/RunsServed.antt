@@ -8,7 +8,11 @@ use Rattle.mz_history.specs.declared.entry.Entry.{Entry}
 use Rattle.mz_examples.specs.Examples.{profile_of, entry_of, magazine, depot, large}
 use Rattle.mz_examples.specs.Cycles.{two_regions, until_thin}
 use Rattle.mz_examples.specs.Edges.{entry_of_other, small_magazine, one_cached}
-use Rattle.mz_run.specs.Fitting.{Request}
+use Rattle.mz_record.specs.Served.{Request}
+
+-- a request for n bytes by caller c, in zone 0, at the alignment 16
+abbrev pub request_by : ℕ → ℕ → Request
+request_by c n = record { caller = c; zone = 0; bytes = n; align = 16 }
 
 -- the request at another alignment
 abbrev pub at_alignment : ℕ → Request → Request
@@ -103,3 +107,8 @@ other_before_move =
 abbrev pub own_before_move : List Entry
 own_before_move =
     until_thin ++ entry_of 9 (End magazine 0 16) ∷ entry_of 10 (Full small_magazine 1024 16) ∷ entry_of 11 (Move 0 magazine depot) ∷ []
+
+-- another caller does the move that was due, and then the same caller once more
+abbrev pub other_moves_first : List Entry
+other_moves_first =
+    until_thin ++ entry_of 9 (End magazine 0 16) ∷ entry_of_other 10 (Move 0 magazine depot) ∷ entry_of 11 (Move 0 magazine depot) ∷ []

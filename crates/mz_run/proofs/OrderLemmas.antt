@@ -1,15 +1,24 @@
 -- Entries whose tickets count up: they stand in order, and a state before one of them is what those before it leave.
-use Rattle.std.proofs.Common.{◌≡◌, ℕ, ◌+◌, ◌<◌, ◌≤◌, true, false, List, [], ◌∷◌, ◌++◌, length, refl, ap, sym, subst, ◌∙◌, inl, inr, arith}
-use Rattle.std.specs.Prelude.{IsTrue, nat_lt, filter, map, Contains}
-use Rattle.std.proofs.lemmas.List.Elements.{Contains-append_cases, Contains-push_cases}
-use Rattle.std.proofs.lemmas.Bool.{lt-ltb, le-ltb}
+use Rattle.std.proofs.Common.{◌≡◌, ℕ, ◌+◌, ◌<◌, ◌≤◌, true, false, List, [], ◌∷◌, ◌++◌, length, max, refl, ap, sym, subst, ◌∙◌, arith}
+use Rattle.std.specs.Prelude.{nat_le, nat_lt, filter}
+use Rattle.std.proofs.lemmas.Bool.{and_from, le-leb, lt-ltb, le-ltb}
 use Rattle.mz_base.specs.declared.profile.Profile.{Profile}
 use Rattle.mz_history.specs.declared.entry.Entry.{Entry}
 use Rattle.mz_history.specs.State.{State, opening}
 use Rattle.mz_base.specs.Lists.{insert_by}
 use Rattle.mz_history.specs.History.{AreLawful, after_all, after_entry, by_ticket}
-use Rattle.mz_run.specs.Moments.{state_before}
-use Rattle.mz_run.specs.Entries.{is_rising, IsBefore}
+use Rattle.mz_trace.specs.declared.run.CallRecord.{CallRecord}
+use Rattle.mz_record.specs.Moments.{state_before}
+use Rattle.mz_fit.specs.Records.{call_record, call_records, entries_of_records}
+use Rattle.mz_fit.specs.Settings.{above}
+use Rattle.mz_fit.specs.Fitting.{is_rising_from}
+
+-- the entries of a record of the one caller, and of such records
+abbrev pub entries_of_call : CallRecord → List Entry
+entries_of_call d = (call_record 0 d).entries
+
+abbrev pub entries_of_calls : List CallRecord → List Entry
+entries_of_calls ds = entries_of_records (call_records 0 ds)
 
 -- the tickets are k, k + 1 and so on
 abbrev pub CountsFrom : ℕ → List Entry → Type 0
@@ -55,12 +64,20 @@ state_before-counted p t es ds same front back =
     ap (λ hs. after_all p opening (filter (λ e. nat_lt e.ticket t) hs)) (by_ticket-counted 0 (es ++ ds) whole)
     ∙ ap (after_all p opening) (below-counted t 0 es ds (omega arith) front back)
 
-pub rising-counted : (k : ℕ) (es : List Entry) → CountsFrom k es → IsTrue (is_rising (map (λ e. e.ticket) es))
+-- they rise from the first number on
+pub rising-counted : (k : ℕ) (es : List Entry) → CountsFrom k es → is_rising_from k es ≡ true
 rising-counted k [] counts = refl
-rising-counted k (e ∷ []) counts = refl
-rising-counted k (e ∷ d ∷ ds) counts =
-    let first : nat_lt e.ticket d.ticket ≡ true = lt-ltb e.ticket d.ticket (omega (arith, counts.0, counts.1.0)) in
-    rw first (rising-counted (k + 1) (d ∷ ds) counts.1)
+rising-counted k (e ∷ es) counts =
+    and_from (nat_le k e.ticket) (is_rising_from (e.ticket + 1) es) (le-leb k e.ticket (omega (arith, counts.0)))
+    (subst (λ (n : ℕ). is_rising_from (n + 1) es ≡ true) (sym counts.0) (rising-counted (k + 1) es counts.1))
+
+above-from : (k : ℕ) (es : List Entry) → CountsFrom k es → max k (above es) ≡ k + length es
+above-from k [] counts = omega arith
+above-from k (e ∷ es) counts = let rest = above-from (k + 1) es counts.1 in omega (arith, rest, counts.0)
+
+-- the least number above all tickets is how many there are
+pub above-counted : (es : List Entry) → CountsFrom 0 es → above es ≡ length es
+above-counted es counts = omega (arith, above-from 0 es counts)
 
 pub after_all-append : (p : Profile) (s : State) (es ds : List Entry) → after_all p s (es ++ ds) ≡ after_all p (after_all p s es) ds
 unfolding after_all
@@ -79,22 +96,3 @@ counts-parts k (e ∷ es) ds counts =
     let rest = counts-parts (k + 1) es ds counts.1 in
     let same : k + 1 + length es ≡ k + length (e ∷ es) = omega arith in
     ((counts.0, rest.0), subst (λ (n : ℕ). CountsFrom n ds) same rest.1)
-
-within-counted : (k : ℕ) (es : List Entry) (x : Entry) → CountsFrom k es → Contains es x → (k ≤ x.ticket) × (x.ticket < k + length es)
-within-counted k [] x counts (i, low, at) = absurd (omega arith)
-within-counted k (e ∷ es) x counts contains =
-    elim (Contains-append_cases (e ∷ []) es x contains) [
-      | inl here ↦ elim (Contains-push_cases [] e x here) [
-        | inl nowhere ↦ absurd (let low = nowhere.1 in omega arith)
-        | inr same ↦ let ticket : x.ticket ≡ k = ap (λ d. d.ticket) (sym same) ∙ counts.0 in (omega (arith, ticket), omega (arith, ticket))
-      ]
-      | inr there ↦ let rest = within-counted (k + 1) es x counts.1 there in (omega (arith, rest), omega (arith, rest))
-    ]
-
--- each of the first is before each of the others
-pub before-counted : (k : ℕ) (es ds : List Entry) → CountsFrom k (es ++ ds) → IsBefore es ds
-before-counted k es ds counts e d first other =
-    let parts = counts-parts k es ds counts in
-    let low = within-counted k es e parts.0 first in
-    let high = within-counted (k + length es) ds d parts.1 other in
-    omega (arith, low, high)

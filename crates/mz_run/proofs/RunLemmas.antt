@@ -1,18 +1,16 @@
 -- What turns make of a run: it is lawful, and what stands behind it is what the session has.
-use Rattle.std.proofs.Common.{◌≡◌, ℕ, zero, suc, ◌+◌, ◌≤◌, false, cond, List, [], ◌∷◌, ◌++◌, Some, None, refl, ap, sym, subst, ◌∙◌, inl, inr, length, arith, length-append, append_assoc}
+use Rattle.std.proofs.Common.{◌≡◌, ℕ, ◌+◌, ◌≤◌, false, cond, List, [], ◌∷◌, ◌++◌, None, refl, ap, sym, subst, ◌∙◌, inl, inr, length, arith, length-append, append_assoc}
 use Rattle.std.specs.Prelude.{IsTrue, map, Contains}
-use Rattle.std.specs.List.{flat_map, list_all}
-use Rattle.std.proofs.lemmas.Grind.{flat_map-append}
+use Rattle.std.specs.List.{flat_map, AllByRecursion}
 use Rattle.std.proofs.lemmas.List.Elements.{Contains-append_cases, Contains-push_cases}
 use Rattle.mz_base.specs.declared.profile.Profile.{Profile}
+use Rattle.mz_base.specs.declared.range.Range.TheVariants as range
 use Rattle.std.proofs.lemmas.Bool.{false≢true}
 use Rattle.std.proofs.lemmas.List.{append-nil, length-map}
 use Rattle.std.proofs.lemmas.Option.{none-some}
-use Rattle.std.specs.Str.{bytes_eq}
-use Rattle.mz_base.specs.Sizes.{good_size_of}
-use Rattle.mz_base.specs.Space.{Block, block_at}
+use Rattle.mz_base.specs.Space.{Block}
 use Rattle.mz_history.specs.declared.entry.Entry.{Entry}
-use Rattle.mz_history.specs.Places.{Spot, spot_of}
+use Rattle.mz_history.specs.Places.{spot_of}
 use Rattle.mz_history.specs.State.{State, opening, look_up, live_blocks, live_size}
 use Rattle.mz_history.specs.History.{AreLawful, after_all, by_ticket, IsLawfulHistory, owes_nothing}
 use Rattle.mz_trace.specs.declared.run.Step.{Step}
@@ -25,21 +23,23 @@ use Rattle.mz_trace.specs.declared.trace.Trace.{Trace}
 use Rattle.mz_trace.specs.declared.tail.Figures.{Figures}
 use Rattle.mz_run.specs.Blocks.{region_end}
 use Rattle.mz_run.specs.Built.{IsBuilt}
-use Rattle.mz_run.specs.Names.{Holding, unknown_bytes, held_at, held_after}
-use Rattle.mz_run.specs.NamesMap.{block_of}
-use Rattle.mz_run.specs.Entries.{entry_by, entries_of_call, entries_of_calls, entries_of_round, entries_of_rounds, entries_of, calls_in, calls_of, IsRising, IsRoundInOrder, AreInOrder}
-use Rattle.mz_run.specs.LawfulRun.{IsLawfulRun, has_no_starts, FitsRecords}
-use Rattle.mz_run.specs.Listing.{tail_of, listing_of, statistics_of, allocated, listed, by_address}
-use Rattle.mz_run.specs.Session.{the_magazine, bytes_in, IsSound, IsOpened, Turn, Turns, RoundsTurn, session_tail, refused_held, served_in_region, served_in_fresh_region, not_served, refused_not_held, dropped}
+use Rattle.mz_record.specs.Listing.{by_address, size_allocated}
+use Rattle.mz_fit.specs.Records.{entry_by, call_record, call_records, entries_of_records, entries_of_round, entries_of}
+use Rattle.mz_fit.specs.Standing.{Standing, default_zone, first_standing, zone_name, delivered}
+use Rattle.mz_fit.specs.After.{after_record}
+use Rattle.mz_fit.specs.Fitting.{FitsRecord}
+use Rattle.mz_fit.specs.LawfulRun.{Placed, placed, behind_all, placed_round, placed_rounds, after_rounds, IsLawfulRun, placed_records, last_standing}
+use Rattle.mz_fit.specs.Tail.{listed as listed_at, listing_of, statistics_of, tail_of}
+use Rattle.mz_run.specs.Session.{the_magazine, bytes_in, IsSound, IsOpened, Turn, Turns, RoundsTurn, listed, session_tail}
 use Rattle.mz_run.proofs.BuiltLemmas.{HasBuiltNumbers, built_numbers}
-use Rattle.mz_run.proofs.TurnLemmas.{Turns-append}
+use Rattle.mz_run.proofs.TurnLemmas.{Turns-append, Turns-parts}
 use Rattle.mz_run.proofs.Standing.{space_of, region_kept, rest_kept, takes, Layout, untouched, parched, in_region, in_full_region, state_by, Stands}
-use Rattle.mz_run.proofs.ByAddressLemmas.{all_listed, by_address-tiled}
+use Rattle.mz_run.proofs.ByAddressLemmas.{all_at, by_address-tiled}
 use Rattle.mz_run.proofs.LeadLemmas.{size_with_large, size_without_large}
-use Rattle.mz_run.proofs.OrderLemmas.{CountsFrom, counts-append, counts-parts, before-counted, by_ticket-counted, rising-counted, after_all-append, lawful-append}
+use Rattle.mz_run.proofs.OrderLemmas.{CountsFrom, entries_of_call, entries_of_calls, counts-append, counts-parts, by_ticket-counted, after_all-append, lawful-append}
 use Rattle.mz_run.proofs.StandsLemmas.{turn_goes, turn_counts, turn_pages}
-use Rattle.mz_run.proofs.HeldLemmas.{held-given, held-forgotten}
-use Rattle.mz_run.proofs.RecordLemmas.{Amid, record_fits}
+use Rattle.mz_run.proofs.HeldLemmas.{Holds, holds_first, holds_delivered}
+use Rattle.mz_run.proofs.RecordLemmas.{Amid, FitsThen, setting_at, record_fits}
 use Rattle.mz_run.proofs.SessionSound.{sound-turn}
 
 leaves_nothing : (p : Profile) → after_all p opening [] ≡ opening
@@ -58,34 +58,13 @@ entries_mine (d ∷ ds) x contains =
       | inr there ↦ entries_mine ds x there
     ]
 
-records_mine : (ds : List CallRecord) (x : Entry) → Contains (entries_of_calls 0 ds) x → x.caller ≡ 0
+records_mine : (ds : List CallRecord) (x : Entry) → Contains (entries_of_calls ds) x → x.caller ≡ 0
 records_mine [] x (k, low, at) = absurd (omega arith)
 records_mine (d ∷ ds) x contains =
-    elim (Contains-append_cases (entries_of_call 0 d) (entries_of_calls 0 ds) x contains) [
+    elim (Contains-append_cases (entries_of_call d) (entries_of_calls ds) x contains) [
       | inl here ↦ entries_mine d.steps x here
       | inr there ↦ records_mine ds x there
     ]
-
--- what is held after a turn is what the session's names have
-names_agree :
-    (v u : Session) (d : CallRecord) (held : List Holding) → Turn v d u → ((w : List ℕ) → held_at held w ≡ block_of v.names w)
-    → (w : List ℕ) → held_at (held_after held d.command d.answer) w ≡ block_of u.names w
-names_agree v u d held (refused_held name n some d_is u_is) agree w =
-    ap (λ x. held_at (held_after held x.command x.answer) w) d_is ∙ agree w ∙ ap (λ x. block_of x.names w) (sym u_is)
-names_agree v u d held (served_in_region name n a names base free small taken place d_is named u_is) agree w =
-    let b = block_at a (good_size_of n) in
-    let h : Holding = record { name = name; block = b; bytes = unknown_bytes (good_size_of n) } in
-    ap (λ x. held_at (held_after held x.command x.answer) w) d_is ∙ held-given h held w ∙ ap (cond (bytes_eq w name) (Some b)) (agree w) ∙ sym (named w) ∙ ap (λ x. block_of x.names w) (sym u_is)
-names_agree v u d held (served_in_fresh_region name n names base free small untaken all d_is named u_is) agree w =
-    let b = block_at 0 (good_size_of n) in
-    let h : Holding = record { name = name; block = b; bytes = unknown_bytes (good_size_of n) } in
-    ap (λ x. held_at (held_after held x.command x.answer) w) d_is ∙ held-given h held w ∙ ap (cond (bytes_eq w name) (Some b)) (agree w) ∙ sym (named w) ∙ ap (λ x. block_of x.names w) (sym u_is)
-names_agree v u d held (not_served name n free small no_room d_is u_is) agree w =
-    ap (λ x. held_at (held_after held x.command x.answer) w) d_is ∙ agree w ∙ ap (λ x. block_of x.names w) (sym u_is)
-names_agree v u d held (refused_not_held name free d_is u_is) agree w =
-    ap (λ x. held_at (held_after held x.command x.answer) w) d_is ∙ agree w ∙ ap (λ x. block_of x.names w) (sym u_is)
-names_agree v u d held (dropped name b names some d_is named u_is) agree w =
-    ap (λ x. held_at (held_after held x.command x.answer) w) d_is ∙ held-forgotten held name w ∙ ap (cond (bytes_eq w name) None) (agree w) ∙ sym (named w) ∙ ap (λ x. block_of x.names w) (sym u_is)
 
 -- What turns lead to: lawful entries, and a session that stands for what they leave.
 pub record Led (p : Profile) (v : Session) (s : State) (es : List Entry) (u : Session) : Type 0 where
@@ -97,7 +76,7 @@ pub record Led (p : Profile) (v : Session) (s : State) (es : List Entry) (u : Se
 
 module _ (gen : ℕ) where
   pub turns_led :
-      (v : Session) (ds : List CallRecord) (u : Session) (s : State) → IsSound v → Stands v s → Turns v ds u → Led (space_of v.pages gen) v s (entries_of_calls 0 ds) u
+      (v : Session) (ds : List CallRecord) (u : Session) (s : State) → IsSound v → Stands v s → Turns v ds u → Led (space_of v.pages gen) v s (entries_of_calls ds) u
   unfolding AreLawful after_all
   turns_led v [] u s sound st same = record {
     lawful = tt;
@@ -111,57 +90,140 @@ module _ (gen : ℕ) where
       let goes = turn_goes gen v sound sound.few_pages s d w st turn in
       let count = turn_counts v d w turn in
       let pages = turn_pages v d w turn in
-      let state : after_all p s (entries_of_call 0 d) ≡ goes.state = goes.leads.leaves in
-      let led_there : Led (space_of w.pages gen) w goes.state (entries_of_calls 0 ds) u = turns_led w ds u goes.state (sound-turn v d w sound turn) goes.stands rest in
-      let led : Led p w (after_all p s (entries_of_call 0 d)) (entries_of_calls 0 ds) u =
-      subst (λ (n : ℕ). Led (space_of n gen) w (after_all p s (entries_of_call 0 d)) (entries_of_calls 0 ds) u) pages
-      (subst (λ (x : State). Led (space_of w.pages gen) w x (entries_of_calls 0 ds) u) (sym state) led_there) in
+      let state : after_all p s (entries_of_call d) ≡ goes.state = goes.leads.leaves in
+      let led_there : Led (space_of w.pages gen) w goes.state (entries_of_calls ds) u = turns_led w ds u goes.state (sound-turn v d w sound turn) goes.stands rest in
+      let led : Led p w (after_all p s (entries_of_call d)) (entries_of_calls ds) u =
+      subst (λ (n : ℕ). Led (space_of n gen) w (after_all p s (entries_of_call d)) (entries_of_calls ds) u) pages
+      (subst (λ (x : State). Led (space_of w.pages gen) w x (entries_of_calls ds) u) (sym state) led_there) in
       let total = led.tickets in
       record {
-        lawful = lawful-append p s (entries_of_call 0 d) (entries_of_calls 0 ds) goes.leads.lawful led.lawful;
-        stands = subst (λ (x : State). Stands u x) (sym (after_all-append p s (entries_of_call 0 d) (entries_of_calls 0 ds))) led.stands;
-        counts = counts-append v.tickets (entries_of_call 0 d) (entries_of_calls 0 ds) count.0 (subst (λ (n : ℕ). CountsFrom n (entries_of_calls 0 ds)) count.1 led.counts);
-        tickets = let here = count.1 in omega (arith, total, here, length-append (entries_of_call 0 d) (entries_of_calls 0 ds));
+        lawful = lawful-append p s (entries_of_call d) (entries_of_calls ds) goes.leads.lawful led.lawful;
+        stands = subst (λ (x : State). Stands u x) (sym (after_all-append p s (entries_of_call d) (entries_of_calls ds))) led.stands;
+        counts = counts-append v.tickets (entries_of_call d) (entries_of_calls ds) count.0 (subst (λ (n : ℕ). CountsFrom n (entries_of_calls ds)) count.1 led.counts);
+        tickets = let here = count.1 in omega (arith, total, here, length-append (entries_of_call d) (entries_of_calls ds));
         pages = led.pages ∙ pages;
       }
 
-  -- the records fit, one after another, in the history of the whole run
-  pub records_fit :
-      (v : Session) (ds : List CallRecord) (u : Session) (s : State) (h pre : List Entry) (held : List Holding) → IsSound v → Stands v s → Turns v ds u
-      → h ≡ pre ++ entries_of_calls 0 ds → length pre ≡ v.tickets → CountsFrom 0 pre → after_all (space_of v.pages gen) opening pre ≡ s
-      → ((x : Entry) → Contains h x → x.caller ≡ 0) → ((w : List ℕ) → held_at held w ≡ block_of v.names w)
-      → FitsRecords (space_of v.pages gen) h 0 held ds
-  records_fit v [] u s h pre held sound st same whole many counts starts mine agree = tt
-  records_fit v (d ∷ ds) u s h pre held sound st (w, turn, rest) whole many counts starts mine agree =
-      let p = space_of v.pages gen in
-      let goes = turn_goes gen v sound sound.few_pages s d w st turn in
-      let count = turn_counts v d w turn in
-      let pages = turn_pages v d w turn in
-      let sound_then = sound-turn v d w sound turn in
-      let led : Led (space_of w.pages gen) w goes.state (entries_of_calls 0 ds) u = turns_led w ds u goes.state sound_then goes.stands rest in
-      let regroup : h ≡ pre ++ entries_of_call 0 d ++ entries_of_calls 0 ds = whole ∙ simp append_assoc in
-      let behind : CountsFrom (v.tickets + length (entries_of_call 0 d)) (entries_of_calls 0 ds) = subst (λ (n : ℕ). CountsFrom n (entries_of_calls 0 ds)) count.1 led.counts in
-      let amid : Amid p h pre (entries_of_call 0 d) (entries_of_calls 0 ds) v.tickets = record {
-        whole = regroup;
-        count = many;
-        before = counts;
-        here = count.0;
-        behind = behind;
+-- all records of the rounds
+abbrev pub joined : List (List CallRecord) → List CallRecord
+joined rounds = flat_map (λ records. records) rounds
+
+-- a round in which the one caller has these records
+abbrev pub round_with : List CallRecord → RunRound
+round_with ds = record { starts = []; callers = ds ∷ [] }
+
+-- what holds of each of two lists holds of both
+all_of_both : {X : Type 0} (P : X → Type 0) (xs ys : List X) → AllByRecursion P xs → AllByRecursion P ys → AllByRecursion P (xs ++ ys)
+all_of_both P [] ys front back = back
+all_of_both P (x ∷ xs) ys front back = (front.0, all_of_both P xs ys front.1 back)
+
+-- a record fits in its place
+abbrev FitsThere : Placed → Type 0
+FitsThere x = FitsRecord x.setting x.deed
+
+-- The records fit, one after another, in the history of the whole run, whose entries count up and are all caller 0's.
+module _ (gen pages : ℕ) (h : List Entry) (counts : CountsFrom 0 h) (mine : (x : Entry) → Contains h x → x.caller ≡ 0) where
+  abbrev space : Profile
+  space = space_of pages gen
+
+  -- the session when the entries pre have come, with what stands then
+  record Reached (v : Session) (pre : List Entry) (w : Standing) : Type 0 where
+    sound : IsSound v
+    pages_are : v.pages ≡ pages
+    many : length pre ≡ v.tickets
+    stands : Stands v (after_all space opening pre)
+    holds : Holds w v.names
+
+  one_fits :
+      (v u : Session) (d : CallRecord) (pre post : List Entry) (w : Standing) → Reached v pre w → Turn v d u → h ≡ pre ++ (entries_of_call d ++ post)
+      → FitsThen (setting_at space h pre w) (call_record 0 d) u.names
+  one_fits v u d pre post w reached turn whole =
+      let few = reached.sound.few_pages in
+      let before = counts-parts 0 pre (entries_of_call d ++ post) (subst (λ (x : List Entry). CountsFrom 0 x) whole counts) in
+      let many : 0 + length pre ≡ v.tickets = let m = reached.many in omega (arith, m) in
+      let behind = counts-parts v.tickets (entries_of_call d) post (subst (λ (n : ℕ). CountsFrom n (entries_of_call d ++ post)) many before.1) in
+      let amid : Amid (space_of v.pages gen) h pre (entries_of_call d) post v.tickets = record {
+        whole = whole ∙ sym (append_assoc pre (entries_of_call d) post);
+        count = reached.many;
+        before = before.0;
+        here = behind.0;
+        behind = behind.1;
         mine = mine;
       } in
-      let next : length (pre ++ entries_of_call 0 d) ≡ w.tickets = let here = count.1 in omega (arith, length-append pre (entries_of_call 0 d), here, many) in
-      let at : v.tickets ≡ 0 + length pre = omega (arith, many) in
-      let all : CountsFrom 0 (pre ++ entries_of_call 0 d) = counts-append 0 pre (entries_of_call 0 d) counts (subst (λ (n : ℕ). CountsFrom n (entries_of_call 0 d)) at count.0) in
-      let leaves : after_all p opening (pre ++ entries_of_call 0 d) ≡ goes.state =
-      after_all-append p opening pre (entries_of_call 0 d) ∙ ap (λ x. after_all p x (entries_of_call 0 d)) starts ∙ goes.leads.leaves in
-      let leaves_there : after_all (space_of w.pages gen) opening (pre ++ entries_of_call 0 d) ≡ goes.state =
-      ap (λ n. after_all (space_of n gen) opening (pre ++ entries_of_call 0 d)) pages ∙ leaves in
-      let others : FitsRecords (space_of w.pages gen) h 0 (held_after held d.command d.answer) ds =
-      records_fit w ds u goes.state h (pre ++ entries_of_call 0 d) (held_after held d.command d.answer) sound_then goes.stands rest regroup next all leaves_there mine
-      (names_agree v w d held turn agree) in (
-        record_fits gen v sound sound.few_pages h pre (entries_of_calls 0 ds) held d w s st turn amid starts agree,
-        subst (λ (n : ℕ). FitsRecords (space_of n gen) h 0 (held_after held d.command d.answer) ds) pages others,
-      )
+      let there : Stands v (after_all (space_of v.pages gen) opening pre) =
+      subst (λ (n : ℕ). Stands v (after_all (space_of n gen) opening pre)) (sym reached.pages_are) reached.stands in
+      subst (λ (n : ℕ). FitsThen (setting_at (space_of n gen) h pre w) (call_record 0 d) u.names) reached.pages_are
+      (record_fits gen v reached.sound few h pre post w reached.holds d u (after_all (space_of v.pages gen) opening pre) there turn amid refl)
+
+  one_reached :
+      (v u : Session) (d : CallRecord) (pre : List Entry) (w x : Standing) → Reached v pre w → Turn v d u → Holds x u.names → Reached u (pre ++ entries_of_call d) x
+  one_reached v u d pre w x reached turn holds =
+      let count = (turn_counts v d u turn).1 in
+      let m = reached.many in
+      let there : Stands v (after_all (space_of v.pages gen) opening pre) =
+      subst (λ (n : ℕ). Stands v (after_all (space_of n gen) opening pre)) (sym reached.pages_are) reached.stands in
+      let goes = turn_goes gen v reached.sound reached.sound.few_pages (after_all (space_of v.pages gen) opening pre) d u there turn in
+      let left : goes.state ≡ after_all (space_of v.pages gen) opening (pre ++ entries_of_call d) =
+      sym goes.leads.leaves ∙ sym (after_all-append (space_of v.pages gen) opening pre (entries_of_call d)) in
+      record {
+        sound = sound-turn v d u reached.sound turn;
+        pages_are = turn_pages v d u turn ∙ reached.pages_are;
+        many = omega (arith, count, m, length-append pre (entries_of_call d));
+        stands = subst (λ (n : ℕ). Stands u (after_all (space_of n gen) opening (pre ++ entries_of_call d))) reached.pages_are
+            (subst (λ (s : State). Stands u s) left goes.stands);
+        holds = holds;
+      }
+
+  -- records that fit, and where the session has come then
+  record Fitting (u : Session) (pre : List Entry) (w : Standing) (ds : List CallRecord) : Type 0 where
+    fitting : AllByRecursion FitsThere (placed (setting_at space h pre w) (call_records 0 ds))
+    reached : Reached u (pre ++ entries_of_calls ds) (behind_all (setting_at space h pre w) (call_records 0 ds)).standing
+
+  records_fit :
+      (v u : Session) (ds : List CallRecord) (pre post : List Entry) (w : Standing) → Reached v pre w → Turns v ds u → h ≡ pre ++ (entries_of_calls ds ++ post) → Fitting u pre w ds
+  records_fit v u [] pre post w reached same whole = record {
+    fitting = tt;
+    reached = subst (λ (x : List Entry). Reached u x w) (sym (append-nil pre)) (subst (λ (x : Session). Reached x pre w) same reached);
+  }
+  records_fit v u (d ∷ ds) pre post w reached (x, turn, rest) whole =
+      let es = entries_of_call d in
+      let later = entries_of_calls ds in
+      let regrouped : h ≡ pre ++ (es ++ (later ++ post)) = whole ∙ ap (λ (l : List Entry). pre ++ l) (append_assoc es later post) in
+      let here = one_fits v x d pre (later ++ post) w reached turn regrouped in
+      let now = after_record (setting_at space h pre w) (call_record 0 d) in
+      let others = records_fit x u ds (pre ++ es) post now (one_reached v x d pre w now reached turn here.holds) rest (regrouped ∙ sym (append_assoc pre es (later ++ post))) in
+      record {
+        fitting = (here.fits, others.fitting);
+        reached = subst (λ (l : List Entry). Reached u l (behind_all (setting_at space h pre w) (call_records 0 (d ∷ ds))).standing) (append_assoc pre es later) others.reached;
+      }
+
+  -- rounds that fit, and what stands then
+  record RoundsFit (u : Session) (pre : List Entry) (w : Standing) (lists : List (List CallRecord)) : Type 0 where
+    fitting : AllByRecursion FitsThere (placed_rounds (setting_at space h pre w) (map round_with lists))
+    holds : Holds (after_rounds (setting_at space h pre w) (map round_with lists)).standing u.names
+
+  rounds_fit :
+      (v u : Session) (lists : List (List CallRecord)) (pre : List Entry) (w : Standing) → Reached v pre w → Turns v (joined lists) u
+      → h ≡ pre ++ flat_map entries_of_round (map round_with lists) → RoundsFit u pre w lists
+  rounds_fit v u [] pre w reached same whole = record { fitting = tt; holds = subst (λ (x : Session). Holds w x.names) same reached.holds }
+  rounds_fit v u (ds ∷ lists) pre w reached turns whole =
+      let parts = Turns-parts v ds (joined lists) u turns in
+      let x = parts.0 in
+      let es = entries_of_round (round_with ds) in
+      let later = flat_map entries_of_round (map round_with lists) in
+      let own : es ≡ entries_of_calls ds = ap entries_of_records (append-nil (call_records 0 ds)) in
+      let here = records_fit v x ds pre later w reached parts.1 (whole ∙ ap (λ (l : List Entry). pre ++ (l ++ later)) own) in
+      let now = (behind_all (setting_at space h pre w) (call_records 0 ds)).standing in
+      let come = here.reached in
+      let round : Reached x (pre ++ es) (delivered now) =
+      subst (λ (l : List Entry). Reached x (pre ++ l) (delivered now)) (sym own)
+      (record { sound = come.sound; pages_are = come.pages_are; many = come.many; stands = come.stands; holds = holds_delivered now x.names come.holds }) in
+      let others = rounds_fit x u lists (pre ++ es) (delivered now) round parts.2 (whole ∙ sym (append_assoc pre es later)) in
+      record {
+        fitting = all_of_both FitsThere (placed_round (setting_at space h pre w) (round_with ds)) _
+            (all_of_both FitsThere (placed (setting_at space h pre w) (call_records 0 ds)) [] here.fitting tt) others.fitting;
+        holds = others.holds;
+      }
 
 -- a space that is served is one of these
 served_space : (q : Profile) → HasBuiltNumbers q → q ≡ space_of q.pages q.most_gen
@@ -203,48 +265,64 @@ settled_everywhere (in_full_region a b c l) u = refl
 stands_opened : (pages : ℕ) → Stands (record { pages = pages; taken = false; live = []; last_freed = None; names = []; tickets = 0; in_use = 0; greatest = 0 }) opening
 stands_opened pages = record { layout = untouched; state = refl; taken = refl; few = λ h. absurd (false≢true h) }
 
--- all records of the rounds
-abbrev pub joined : List (List CallRecord) → List CallRecord
-joined rounds = flat_map (λ records. records) rounds
+-- the run with these rounds
+abbrev run_with : Profile → List RunRound → Run
+run_with q rounds = record { profile = q; rounds = rounds }
 
--- the history of a run that turns made, from an opened session on
-pub record Made (q : Profile) (ds : List CallRecord) (u : Session) : Type 0 where
-  pub history : IsLawfulHistory q (entries_of_calls 0 ds)
-  pub counts : CountsFrom 0 (entries_of_calls 0 ds)
-  pub fitting : FitsRecords q (entries_of_calls 0 ds) 0 [] ds
-  pub stands : Stands u (after_all q opening (by_ticket (entries_of_calls 0 ds)))
+calls_of_both : (ds es : List CallRecord) → entries_of_calls (ds ++ es) ≡ entries_of_calls ds ++ entries_of_calls es
+calls_of_both [] es = refl
+calls_of_both (d ∷ ds) es = ap (λ l. entries_of_call d ++ l) (calls_of_both ds es) ∙ sym (append_assoc (entries_of_call d) (entries_of_calls ds) (entries_of_calls es))
 
-made_here : (gen : ℕ) (v : Session) (ds : List CallRecord) (u : Session) → IsSound v → Stands v opening → v.tickets ≡ 0 → v.names ≡ [] → Turns v ds u → Made (space_of v.pages gen) ds u
-made_here gen v ds u sound st none_drawn nameless turns =
+-- the entries of such rounds are those of the records, one after another
+entries_joined : (lists : List (List CallRecord)) → flat_map entries_of_round (map round_with lists) ≡ entries_of_calls (joined lists)
+entries_joined [] = refl
+entries_joined (ds ∷ lists) =
+    ap (λ l. entries_of_records l ++ flat_map entries_of_round (map round_with lists)) (append-nil (call_records 0 ds))
+    ∙ ap (λ l. entries_of_calls ds ++ l) (entries_joined lists) ∙ sym (calls_of_both ds (joined lists))
+
+-- what a run is that turns made, from an opened session on
+pub record Made (q : Profile) (lists : List (List CallRecord)) (u : Session) : Type 0 where
+  pub history : IsLawfulHistory q (entries_of (run_with q (map round_with lists)))
+  pub fitting : AllByRecursion FitsThere (placed_records (run_with q (map round_with lists)))
+  pub holds : Holds (last_standing (run_with q (map round_with lists))) u.names
+  pub stands : Stands u (after_all q opening (by_ticket (entries_of (run_with q (map round_with lists)))))
+
+made_here :
+    (gen : ℕ) (v : Session) (lists : List (List CallRecord)) (u : Session) → IsSound v → Stands v opening → v.tickets ≡ 0 → v.names ≡ [] → Turns v (joined lists) u
+    → Made (space_of v.pages gen) lists u
+made_here gen v lists u sound st none_drawn nameless turns =
     let p = space_of v.pages gen in
-    let es = entries_of_calls 0 ds in
-    let led = turns_led gen v ds u opening sound st turns in
+    let h = entries_of (run_with p (map round_with lists)) in
+    let es = entries_of_calls (joined lists) in
+    let same : h ≡ es = entries_joined lists in
+    let led = turns_led gen v (joined lists) u opening sound st turns in
     let counts : CountsFrom 0 es = subst (λ (n : ℕ). CountsFrom n es) none_drawn led.counts in
-    let order : by_ticket es ≡ es = by_ticket-counted 0 es counts in
-    let stands : Stands u (after_all p opening (by_ticket es)) = subst (λ (x : List Entry). Stands u (after_all p opening x)) (sym order) led.stands in
-    let nothing : (w : List ℕ) → held_at [] w ≡ block_of v.names w = λ (w : List ℕ). ap (λ x. block_of x w) (sym nameless) in
-    let quiet : IsTrue (owes_nothing (after_all p opening (by_ticket es))) = subst (λ (x : State). IsTrue (owes_nothing x)) (sym stands.state) (settled_everywhere stands.layout u) in
-    let none : after_all p opening [] ≡ opening = leaves_nothing p in
+    let counted : CountsFrom 0 h = subst (λ (x : List Entry). CountsFrom 0 x) (sym same) counts in
+    let order : by_ticket h ≡ es = by_ticket-counted 0 h counted ∙ same in
+    let stands : Stands u (after_all p opening (by_ticket h)) = subst (λ (x : List Entry). Stands u (after_all p opening x)) (sym order) led.stands in
+    let quiet : IsTrue (owes_nothing (after_all p opening (by_ticket h))) = subst (λ (x : State). IsTrue (owes_nothing x)) (sym stands.state) (settled_everywhere stands.layout u) in
+    let mine : (x : Entry) → Contains h x → x.caller ≡ 0 = λ x contains. records_mine (joined lists) x (subst (λ (l : List Entry). Contains l x) same contains) in
+    let begins : Stands v (after_all p opening []) = subst (λ (x : State). Stands v x) (sym (leaves_nothing p)) st in
+    let nothing : Holds first_standing v.names = subst (λ (x : List (List ℕ × Block)). Holds first_standing x) (sym nameless) holds_first in
+    let fit =
+    rounds_fit gen v.pages h counted mine v u lists [] first_standing
+    (record { sound = sound; pages_are = refl; many = sym none_drawn; stands = begins; holds = nothing }) turns refl in
     record {
       history = record { each = subst (λ (x : List Entry). AreLawful p opening x) (sym order) led.lawful; settled = quiet };
-      counts = counts;
-      fitting = records_fit gen v ds u opening es [] [] sound st turns refl (sym none_drawn) tt none (records_mine ds) nothing;
+      fitting = fit.fitting;
+      holds = fit.holds;
       stands = stands;
     }
 
 made :
-    (t : Trace) (ds : List CallRecord) (v u : Session) → IsBuilt t → IsOpened t.profile.pages v → Turns v ds u → Made t.profile ds u
-made t ds v u built opened turns =
+    (t : Trace) (lists : List (List CallRecord)) (v u : Session) → IsBuilt t → IsOpened t.profile.pages v → Turns v (joined lists) u → Made t.profile lists u
+made t lists v u built opened turns =
     let q = t.profile in
     let numbers = built_numbers q built.space in
     let start : Session = record { pages = q.pages; taken = false; live = []; last_freed = None; names = []; tickets = 0; in_use = 0; greatest = 0 } in
-    let here : Made (space_of q.pages q.most_gen) ds u =
-    made_here q.most_gen start ds u (sound_opened q.pages numbers.pages) (stands_opened q.pages) refl refl (subst (λ (x : Session). Turns x ds u) opened turns) in
-    subst (λ (x : Profile). Made x ds u) (sym (served_space q numbers)) here
-
--- a round in which the one caller has these records
-abbrev pub round_with : List CallRecord → RunRound
-round_with ds = record { starts = []; callers = ds ∷ [] }
+    let here : Made (space_of q.pages q.most_gen) lists u =
+    made_here q.most_gen start lists u (sound_opened q.pages numbers.pages) (stands_opened q.pages) refl refl (subst (λ (x : Session). Turns x (joined lists) u) opened turns) in
+    subst (λ (x : Profile). Made x lists u) (sym (served_space q numbers)) here
 
 -- what rounds do is what their commands do
 pub record Shape (v : Session) (rounds : List RunRound) (u : Session) : Type 0 where
@@ -264,79 +342,29 @@ shape v (r ∷ rs) u (w, here, rest) =
       turns = Turns-append v here.calls (joined later.lists) w u here.turns later.turns;
     }
 
--- the entries of such rounds are those of the records, one after another
-entries_joined : (lists : List (List CallRecord)) → flat_map entries_of_round (map round_with lists) ≡ entries_of_calls 0 (joined lists)
-entries_joined [] = refl
-entries_joined (ds ∷ lists) =
-    ap (λ x. x ++ flat_map entries_of_round (map round_with lists)) (append-nil (entries_of_calls 0 ds))
-    ∙ ap (λ x. entries_of_calls 0 ds ++ x) (entries_joined lists) ∙ sym (flat_map-append (entries_of_call 0) ds (joined lists))
-
-calls_of_first : (lists : List (List CallRecord)) → calls_of 0 (map round_with lists) ≡ joined lists
-calls_of_first [] = refl
-calls_of_first (ds ∷ lists) = ap (λ x. ds ++ x) (calls_of_first lists)
-
-calls_of_others : (c : ℕ) (lists : List (List CallRecord)) → calls_of (suc c) (map round_with lists) ≡ []
-calls_of_others c [] = refl
-calls_of_others c (ds ∷ lists) = calls_of_others c lists
-
-no_starts : (lists : List (List CallRecord)) → IsTrue (list_all has_no_starts (map round_with lists))
-no_starts [] = refl
-no_starts (ds ∷ lists) = no_starts lists
-
--- tickets that count up over such rounds are in order
-calls_in_order : (k : ℕ) (ds : List CallRecord) → CountsFrom k (entries_of_calls 0 ds) → (c : ℕ) → IsRising (entries_of_calls c (calls_in c (round_with ds)))
-calls_in_order k ds counts zero = rising-counted k (entries_of_calls 0 ds) counts
-calls_in_order k ds counts (suc c) = refl
-
-round_in_order : (k : ℕ) (ds : List CallRecord) → CountsFrom k (entries_of_calls 0 ds) → IsRoundInOrder (round_with ds)
-round_in_order k ds counts = record { starts = refl; calls = calls_in_order k ds counts; starts_first = λ e d (i, low, at) other. absurd (omega arith) }
-
-in_order : (k : ℕ) (lists : List (List CallRecord)) → CountsFrom k (entries_of_rounds (map round_with lists)) → AreInOrder (map round_with lists)
-in_order k [] counts = tt
-in_order k (ds ∷ lists) counts =
-    let here = entries_of_round (round_with ds) in
-    let parts = counts-parts k here (entries_of_rounds (map round_with lists)) counts in
-    let calls : CountsFrom k (entries_of_calls 0 ds) = subst (λ (x : List Entry). CountsFrom k x) (append-nil (entries_of_calls 0 ds)) parts.0 in
-    (round_in_order k ds calls, before-counted k here (entries_of_rounds (map round_with lists)) counts, in_order (k + length here) lists parts.1)
-
--- the first caller's records fit, and no other caller has any
-by_caller : (q : Profile) (h : List Entry) (lists : List (List CallRecord)) → FitsRecords q h 0 [] (calls_of 0 (map round_with lists)) → (c : ℕ) → FitsRecords q h c [] (calls_of c (map round_with lists))
-by_caller q h lists first zero = first
-by_caller q h lists first (suc c) = subst (λ (x : List CallRecord). FitsRecords q h (suc c) [] x) (sym (calls_of_others c lists)) tt
-
--- the run with these rounds
-abbrev run_with : Profile → List RunRound → Run
-run_with q rounds = record { profile = q; rounds = rounds }
-
-lawful_with : (t : Trace) (lists : List (List CallRecord)) (u : Session) → Made t.profile (joined lists) u → map round_of (map round_with lists) ≡ t.rounds → IsLawfulRun t (run_with t.profile (map round_with lists))
-lawful_with t lists u run rounds =
-    let q = t.profile in
-    let es : entries_of_calls 0 (joined lists) ≡ entries_of (run_with q (map round_with lists)) = sym (entries_joined lists) in
-    let first : FitsRecords q (entries_of (run_with q (map round_with lists))) 0 [] (calls_of 0 (map round_with lists)) =
-    subst (λ (x : List CallRecord). FitsRecords q (entries_of (run_with q (map round_with lists))) 0 [] x) (sym (calls_of_first lists))
-    (subst (λ (x : List Entry). FitsRecords q x 0 [] (joined lists)) es run.fitting) in
-    record {
-      trace = ap (λ x. record { profile = q; rounds = x }) rounds;
-      history = subst (λ (x : List Entry). IsLawfulHistory q x) es run.history;
-      order = in_order 0 lists (subst (λ (x : List Entry). CountsFrom 0 x) es run.counts);
-      starts = no_starts lists;
-      fitting = by_caller q (entries_of (run_with q (map round_with lists))) lists first;
-    }
+lawful_with :
+    (t : Trace) (lists : List (List CallRecord)) (u : Session) → Made t.profile lists u → map round_of (map round_with lists) ≡ t.rounds
+    → IsLawfulRun t (run_with t.profile (map round_with lists))
+lawful_with t lists u run rounds = record {
+  trace = ap (λ x. record { profile = t.profile; rounds = x }) rounds;
+  history = run.history;
+  fitting = run.fitting;
+}
 
 pub run_is_lawful :
     (t : Trace) (rounds : List RunRound) (v u : Session) → IsBuilt t → IsOpened t.profile.pages v → RoundsTurn v rounds u → map round_of rounds ≡ t.rounds
     → IsLawfulRun t (record { profile = t.profile; rounds = rounds })
 run_is_lawful t rounds v u built opened turns told =
     let s = shape v rounds u turns in
-    let run = made t (joined s.lists) v u built opened s.turns in
+    let run = made t s.lists v u built opened s.turns in
     subst (λ (x : List RunRound). IsLawfulRun t (run_with t.profile x)) (sym s.rounds_are) (lawful_with t s.lists u run (ap (map round_of) (sym s.rounds_are) ∙ told))
 
 -- the live blocks of a state for which a session stands
-live_there : (y : Layout) (u : Session) → IsSound u → u.taken ≡ takes y → live_blocks (state_by y u) ≡ all_listed (spot_of the_magazine) u.live
-live_there untouched u sound taken = ap (all_listed (spot_of the_magazine)) (sym (sound.untaken_live taken))
-live_there (parched a b c l) u sound taken = ap (all_listed (spot_of the_magazine)) (sym (sound.untaken_live taken))
-live_there (in_region a b c) u sound taken = append-nil (all_listed (spot_of the_magazine) u.live)
-live_there (in_full_region a b c l) u sound taken = append-nil (all_listed (spot_of the_magazine) u.live)
+live_there : (y : Layout) (u : Session) → IsSound u → u.taken ≡ takes y → live_blocks (state_by y u) ≡ all_at (spot_of the_magazine) u.live
+live_there untouched u sound taken = ap (all_at (spot_of the_magazine)) (sym (sound.untaken_live taken))
+live_there (parched a b c l) u sound taken = ap (all_at (spot_of the_magazine)) (sym (sound.untaken_live taken))
+live_there (in_region a b c) u sound taken = append-nil (all_at (spot_of the_magazine) u.live)
+live_there (in_full_region a b c l) u sound taken = append-nil (all_at (spot_of the_magazine) u.live)
 
 size_there : (y : Layout) (u : Session) → IsSound u → u.taken ≡ takes y → live_size (state_by y u).values ≡ bytes_in u.live
 size_there untouched u sound taken = ap bytes_in (sym (sound.untaken_live taken))
@@ -344,37 +372,48 @@ size_there (parched a b c l) u sound taken = ap bytes_in (sym (sound.untaken_liv
 size_there (in_region a b c) u sound taken = size_without_large (region_kept u.live u.last_freed) rest_kept a b c refl
 size_there (in_full_region a b c l) u sound taken = size_with_large (region_kept u.live u.last_freed) rest_kept a b c l refl
 
-pages_there : (pages gen : ℕ) (y : Layout) (u : Session) → allocated (space_of pages gen) (state_by y u) ≡ cond (takes y) region_end 0
+pages_there : (pages gen : ℕ) (y : Layout) (u : Session) → size_allocated (space_of pages gen) (state_by y u) ≡ cond (takes y) region_end 0
 unfolding look_up
 pages_there pages gen untouched u = refl
 pages_there pages gen (parched a b c l) u = refl
 pages_there pages gen (in_region a b c) u = refl
 pages_there pages gen (in_full_region a b c l) u = refl
 
--- what stands behind a run that ends in this state
-abbrev tail_at : Profile → State → Figures
-tail_at q s = record { listing = listing_of s; statistics = statistics_of q s }
+-- what stands behind a run that ends in this state, and in this standing
+abbrev tail_at : Profile → Standing → State → Figures
+tail_at q w s = record { listing = listing_of w s; statistics = statistics_of q s }
 
-listed_once : (j : Spot) (bs : List Block) → map listed (all_listed j bs) ≡ map (λ b. listed (j, b)) bs
-listed_once j [] = refl
-listed_once j (b ∷ bs) = ap (◌∷◌ (listed (j, b))) (listed_once j bs)
+-- a block of the magazine is listed as one of the zone default
+listed_once : (w : Standing) (bs : List Block) → zone_name w 0 ≡ default_zone → map (listed_at w) (all_at (spot_of the_magazine) bs) ≡ map listed bs
+listed_once w [] zone = refl
+listed_once w (b ∷ bs) zone =
+    ap (λ (z : List ℕ). record { a = b.first; s = b.size; range = range.Tiny; zone = z } ∷ map (listed_at w) (all_at (spot_of the_magazine) bs)) zone
+    ∙ ap (λ l. listed b ∷ l) (listed_once w bs zone)
 
-tail_there : (pages gen : ℕ) (y : Layout) (u : Session) → IsSound u → u.taken ≡ takes y → tail_at (space_of pages gen) (state_by y u) ≡ session_tail u
-tail_there pages gen y u sound taken =
+-- zone 0 has that name
+default_name : (w : Standing) (names : List (List ℕ × Block)) → Holds w names → zone_name w 0 ≡ default_zone
+default_name w names holds = ap (λ zs. zone_name (record w { zones = zs }) 0) holds.zones
+
+tail_there :
+    (pages gen : ℕ) (y : Layout) (u : Session) (w : Standing) → IsSound u → u.taken ≡ takes y → Holds w u.names
+    → tail_at (space_of pages gen) w (state_by y u) ≡ session_tail u
+tail_there pages gen y u w sound taken holds =
     let s = state_by y u in
+    let p = space_of pages gen in
     let live = live_there y u sound taken in
-    let listing : listing_of s ≡ map (λ b. listed (spot_of the_magazine, b)) u.live =
-    ap (λ l. by_address (map listed l)) live ∙ by_address-tiled (spot_of the_magazine) u.live 0 sound.tiled ∙ listed_once (spot_of the_magazine) u.live in
+    let listing : listing_of w s ≡ map listed u.live =
+    ap (λ l. map (listed_at w) (by_address l)) live ∙ ap (map (listed_at w)) (by_address-tiled (spot_of the_magazine) u.live 0 sound.tiled)
+    ∙ listed_once w u.live (default_name w u.names holds) in
     let count : length (live_blocks s) ≡ length u.live = ap length live ∙ length-map u.live (λ b. (spot_of the_magazine, b)) in
     let size : live_size s.values ≡ u.in_use = size_there y u sound taken ∙ sym sound.sum in
-    let pages_in : allocated (space_of pages gen) s ≡ cond u.taken region_end 0 = pages_there pages gen y u ∙ ap (λ b. cond b region_end 0) (sym taken) in
-    let first : tail_at (space_of pages gen) s ≡ record { listing = map (λ b. listed (spot_of the_magazine, b)) u.live; statistics = statistics_of (space_of pages gen) s } =
-    ap (λ l. record { listing = l; statistics = statistics_of (space_of pages gen) s }) listing in
-    let numbers : statistics_of (space_of pages gen) s ≡ (session_tail u).statistics =
-    ap (λ n. record { blocks_in_use = n; size_in_use = live_size s.values; max_size_in_use = u.greatest; size_allocated = allocated (space_of pages gen) s }) count
-    ∙ ap (λ n. record { blocks_in_use = length u.live; size_in_use = n; max_size_in_use = u.greatest; size_allocated = allocated (space_of pages gen) s }) size
+    let pages_in : size_allocated p s ≡ cond u.taken region_end 0 = pages_there pages gen y u ∙ ap (λ b. cond b region_end 0) (sym taken) in
+    let first : tail_at p w s ≡ record { listing = map listed u.live; statistics = statistics_of p s } =
+    ap (λ l. record { listing = l; statistics = statistics_of p s }) listing in
+    let numbers : statistics_of p s ≡ (session_tail u).statistics =
+    ap (λ n. record { blocks_in_use = n; size_in_use = live_size s.values; max_size_in_use = u.greatest; size_allocated = size_allocated p s }) count
+    ∙ ap (λ n. record { blocks_in_use = length u.live; size_in_use = n; max_size_in_use = u.greatest; size_allocated = size_allocated p s }) size
     ∙ ap (λ n. record { blocks_in_use = length u.live; size_in_use = u.in_use; max_size_in_use = u.greatest; size_allocated = n }) pages_in in
-    first ∙ ap (λ x. record { listing = map (λ b. listed (spot_of the_magazine, b)) u.live; statistics = x }) numbers
+    first ∙ ap (λ x. record { listing = map listed u.live; statistics = x }) numbers
 
 pub tail_is_of_run :
     (t : Trace) (rounds : List RunRound) (v u : Session) → IsBuilt t → IsOpened t.profile.pages v → RoundsTurn v rounds u → IsSound u
@@ -382,9 +421,10 @@ pub tail_is_of_run :
 tail_is_of_run t rounds v u built opened turns sound =
     let q = t.profile in
     let s = shape v rounds u turns in
-    let run = made t (joined s.lists) v u built opened s.turns in
+    let run = made t s.lists v u built opened s.turns in
     let y = run.stands.layout in
-    let there : tail_at q (state_by y u) ≡ session_tail u =
-    ap (λ x. tail_at x (state_by y u)) (served_space q (built_numbers q built.space)) ∙ tail_there q.pages q.most_gen y u sound run.stands.taken in
-    let entries : entries_of (run_with q rounds) ≡ entries_of_calls 0 (joined s.lists) = ap (λ x. entries_of (run_with q x)) s.rounds_are ∙ entries_joined s.lists in
-    sym (ap (λ x. tail_at q (after_all q opening (by_ticket x))) entries ∙ ap (tail_at q) run.stands.state ∙ there)
+    let r = run_with q (map round_with s.lists) in
+    let w = last_standing r in
+    let there : tail_at q w (state_by y u) ≡ session_tail u =
+    ap (λ x. tail_at x w (state_by y u)) (served_space q (built_numbers q built.space)) ∙ tail_there q.pages q.most_gen y u w sound run.stands.taken run.holds in
+    sym (ap (λ x. tail_of (run_with q x)) s.rounds_are ∙ ap (tail_at q w) run.stands.state ∙ there)

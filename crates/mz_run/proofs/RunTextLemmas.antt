@@ -8,7 +8,6 @@ use Rattle.std.proofs.lemmas.List.Folds.{list_all-append}
 use Rattle.std.proofs.lemmas.List.Sums.{sum_by-append}
 use Rattle.mz_base.specs.Sizes.{good_size_of}
 use Rattle.mz_base.specs.Space.{Block, block_end}
-use Rattle.mz_history.specs.Places.{spot_of}
 use Rattle.mz_trace.specs.declared.command.Command.{Command}
 use Rattle.mz_trace.specs.declared.command.Command.TheVariants as command
 use Rattle.mz_trace.specs.declared.run.CallRecord.{CallRecord}
@@ -27,8 +26,7 @@ use Rattle.mz_trace.specs.Texts.{IsTrace}
 use Rattle.mz_run.specs.declared.session.Session.{Session}
 use Rattle.mz_run.specs.Blocks.{region_end, IsTiled}
 use Rattle.mz_run.specs.Built.{is_built_command, is_built_round, IsBuilt}
-use Rattle.mz_run.specs.Listing.{listed}
-use Rattle.mz_run.specs.Session.{the_magazine, IsSound, Turn, Turns, RoundsTurn, session_tail, refused_held, served_in_region, served_in_fresh_region, not_served, refused_not_held, dropped}
+use Rattle.mz_run.specs.Session.{IsSound, listed, Turn, Turns, RoundsTurn, session_tail, refused_held, served_in_region, served_in_fresh_region, not_served, refused_not_held, dropped}
 use Rattle.mz_run.proofs.BlocksLemmas.{tiled-end, tiled-member}
 use Rattle.mz_run.proofs.BuiltLemmas.{built_numbers, rounds_built}
 use Rattle.mz_run.proofs.RunLemmas.{joined, round_with, shape}
@@ -184,7 +182,7 @@ tiled_count (b ∷ bs) x h =
     let low = h.0 in
     let some = h.1.some in omega (arith, rest, low, some)
 
-listed_told : (bs : List Block) (x : ℕ) → IsTiled x bs → list_all listed_fits (map (λ b. listed (spot_of the_magazine, b)) bs) ≡ true
+listed_told : (bs : List Block) (x : ℕ) → IsTiled x bs → list_all listed_fits (map listed bs) ≡ true
 unfolding word_fits
 listed_told [] x h = refl
 listed_told (b ∷ bs) x h =

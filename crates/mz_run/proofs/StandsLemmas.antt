@@ -14,11 +14,10 @@ use Rattle.mz_history.specs.Changes.{still_freed}
 use Rattle.mz_trace.specs.declared.run.CallRecord.{CallRecord}
 use Rattle.mz_run.specs.declared.session.Session.{Session}
 use Rattle.mz_run.specs.Session.{the_magazine, the_depot, bytes_in, IsSound, IsPlace, HasNoRoom, after_serving, after_dropping, Turn, refused_held, served_in_region, served_in_fresh_region, not_served, refused_not_held, dropped}
-use Rattle.mz_run.specs.Entries.{entries_of_call}
 use Rattle.mz_run.proofs.Standing.{space_of, region_kept, rest_kept, at_depot, at_pages, at_large, with_values, Layout, untouched, parched, in_region, in_full_region, values_of, takes, is_parched, state_by, Stands}
 use Rattle.mz_run.proofs.EventLemmas.{deed}
 use Rattle.mz_run.proofs.SessionSound.{good_size_of-tiny}
-use Rattle.mz_run.proofs.OrderLemmas.{CountsFrom}
+use Rattle.mz_run.proofs.OrderLemmas.{CountsFrom, entries_of_call}
 use Rattle.mz_run.proofs.LeadLemmas.{Leads, leads_nowhere, null_entries, new_entries, end_entries, fresh_entries, null_again, null_first, null_untouched, new_leads, end_leads, fresh_leads, no_second_region, no_region}
 
 -- the entries lead from the state to one for which the session stands
@@ -167,44 +166,44 @@ module _ (gen : ℕ) (v : Session) (sound : IsSound v) (few : v.pages ≤ 64) wh
 
 -- each turn leads from the state for which the session stands to one for which it stands then
 module _ (gen : ℕ) (v : Session) (sound : IsSound v) (few : v.pages ≤ 64) where
-  pub turn_goes : (s : State) (d : CallRecord) (u : Session) → Stands v s → Turn v d u → Goes (space_of v.pages gen) s (entries_of_call 0 d) u
+  pub turn_goes : (s : State) (d : CallRecord) (u : Session) → Stands v s → Turn v d u → Goes (space_of v.pages gen) s (entries_of_call d) u
   turn_goes s d u st (refused_held name n held d_is u_is) =
-      carry (space_of v.pages gen) s s (entries_of_call 0 d) [] u v refl (ap (entries_of_call 0) d_is) u_is (record { state = s; leads = leads_nowhere (space_of v.pages gen) s; stands = st })
+      carry (space_of v.pages gen) s s (entries_of_call d) [] u v refl (ap entries_of_call d_is) u_is (record { state = s; leads = leads_nowhere (space_of v.pages gen) s; stands = st })
   turn_goes s d u st (served_in_region name n a names base free small taken place d_is named u_is) =
-      carry (space_of v.pages gen) s (state_by st.layout v) (entries_of_call 0 d) (new_entries v.tickets (block_at a (good_size_of n))) u (after_serving v names (block_at a (good_size_of n)) 1) st.state
-      (ap (entries_of_call 0) d_is) u_is (served gen v sound few st.layout names (block_at a (good_size_of n)) (sym st.taken ∙ taken) place (small_size n small))
+      carry (space_of v.pages gen) s (state_by st.layout v) (entries_of_call d) (new_entries v.tickets (block_at a (good_size_of n))) u (after_serving v names (block_at a (good_size_of n)) 1) st.state
+      (ap entries_of_call d_is) u_is (served gen v sound few st.layout names (block_at a (good_size_of n)) (sym st.taken ∙ taken) place (small_size n small))
   turn_goes s d u st (served_in_fresh_region name n names base free small untaken all d_is named u_is) =
       let quanta = quanta_size n small in
-      carry (space_of v.pages gen) s (state_by st.layout v) (entries_of_call 0 d) (fresh_entries v.tickets (good_size_of n)) u (after_serving v names (block_at 0 (good_size_of n)) 4) st.state
-      (ap (entries_of_call 0) d_is) u_is (fresh gen v sound few st.layout (good_size_of n) names quanta.0 quanta.1 (small_size n small) untaken st.taken st.few all)
+      carry (space_of v.pages gen) s (state_by st.layout v) (entries_of_call d) (fresh_entries v.tickets (good_size_of n)) u (after_serving v names (block_at 0 (good_size_of n)) 4) st.state
+      (ap entries_of_call d_is) u_is (fresh gen v sound few st.layout (good_size_of n) names quanta.0 quanta.1 (small_size n small) untaken st.taken st.few all)
   turn_goes s d u st (not_served name n free small no_room d_is u_is) =
       let quanta = quanta_size n small in
-      carry (space_of v.pages gen) s (state_by st.layout v) (entries_of_call 0 d) (null_entries v.tickets (good_size_of n)) u (record v { tickets = v.tickets + 3 }) st.state
-      (ap (entries_of_call 0) d_is) u_is (refused gen v sound few st.layout (good_size_of n) (let least = quanta.1 in omega (arith, least)) st.taken st.few no_room)
+      carry (space_of v.pages gen) s (state_by st.layout v) (entries_of_call d) (null_entries v.tickets (good_size_of n)) u (record v { tickets = v.tickets + 3 }) st.state
+      (ap entries_of_call d_is) u_is (refused gen v sound few st.layout (good_size_of n) (let least = quanta.1 in omega (arith, least)) st.taken st.few no_room)
   turn_goes s d u st (refused_not_held name free d_is u_is) =
-      carry (space_of v.pages gen) s s (entries_of_call 0 d) [] u v refl (ap (entries_of_call 0) d_is) u_is (record { state = s; leads = leads_nowhere (space_of v.pages gen) s; stands = st })
+      carry (space_of v.pages gen) s s (entries_of_call d) [] u v refl (ap entries_of_call d_is) u_is (record { state = s; leads = leads_nowhere (space_of v.pages gen) s; stands = st })
   turn_goes s d u st (dropped name b names held d_is named u_is) =
-      carry (space_of v.pages gen) s (state_by st.layout v) (entries_of_call 0 d) (end_entries v.tickets b) u (after_dropping v names b) st.state
-      (ap (entries_of_call 0) d_is) u_is (ended gen v sound few st.layout names b st.taken (sound.named name b held))
+      carry (space_of v.pages gen) s (state_by st.layout v) (entries_of_call d) (end_entries v.tickets b) u (after_dropping v names b) st.state
+      (ap entries_of_call d_is) u_is (ended gen v sound few st.layout names b st.taken (sound.named name b held))
 
 counted :
-    (v : Session) (d : CallRecord) (u : Session) (es : List Entry) (k : ℕ) → entries_of_call 0 d ≡ es → u.tickets ≡ v.tickets + k → CountsFrom v.tickets es → length es ≡ k
-    → CountsFrom v.tickets (entries_of_call 0 d) × (u.tickets ≡ v.tickets + length (entries_of_call 0 d))
+    (v : Session) (d : CallRecord) (u : Session) (es : List Entry) (k : ℕ) → entries_of_call d ≡ es → u.tickets ≡ v.tickets + k → CountsFrom v.tickets es → length es ≡ k
+    → CountsFrom v.tickets (entries_of_call d) × (u.tickets ≡ v.tickets + length (entries_of_call d))
 counted v d u es k entries tickets counts many =
     (subst (λ (x : List Entry). CountsFrom v.tickets x) (sym entries) counts, tickets ∙ ap (λ m. v.tickets + m) (sym many ∙ ap length (sym entries)))
 
 -- the entries of a turn count on from the session's tickets
-pub turn_counts : (v : Session) (d : CallRecord) (u : Session) → Turn v d u → CountsFrom v.tickets (entries_of_call 0 d) × (u.tickets ≡ v.tickets + length (entries_of_call 0 d))
-turn_counts v d u (refused_held name n held d_is u_is) = counted v d u [] 0 (ap (entries_of_call 0) d_is) (ap (λ x. x.tickets) u_is ∙ omega arith) tt refl
+pub turn_counts : (v : Session) (d : CallRecord) (u : Session) → Turn v d u → CountsFrom v.tickets (entries_of_call d) × (u.tickets ≡ v.tickets + length (entries_of_call d))
+turn_counts v d u (refused_held name n held d_is u_is) = counted v d u [] 0 (ap entries_of_call d_is) (ap (λ x. x.tickets) u_is ∙ omega arith) tt refl
 turn_counts v d u (served_in_region name n a names base free small taken place d_is named u_is) =
-    counted v d u (new_entries v.tickets (block_at a (good_size_of n))) 1 (ap (entries_of_call 0) d_is) (ap (λ x. x.tickets) u_is) (refl, tt) refl
+    counted v d u (new_entries v.tickets (block_at a (good_size_of n))) 1 (ap entries_of_call d_is) (ap (λ x. x.tickets) u_is) (refl, tt) refl
 turn_counts v d u (served_in_fresh_region name n names base free small untaken all d_is named u_is) =
-    counted v d u (fresh_entries v.tickets (good_size_of n)) 4 (ap (entries_of_call 0) d_is) (ap (λ x. x.tickets) u_is) (refl, (refl, (omega arith, (omega arith, tt)))) refl
+    counted v d u (fresh_entries v.tickets (good_size_of n)) 4 (ap entries_of_call d_is) (ap (λ x. x.tickets) u_is) (refl, (refl, (omega arith, (omega arith, tt)))) refl
 turn_counts v d u (not_served name n free small no_room d_is u_is) =
-    counted v d u (null_entries v.tickets (good_size_of n)) 3 (ap (entries_of_call 0) d_is) (ap (λ x. x.tickets) u_is) (refl, (refl, (omega arith, tt))) refl
-turn_counts v d u (refused_not_held name free d_is u_is) = counted v d u [] 0 (ap (entries_of_call 0) d_is) (ap (λ x. x.tickets) u_is ∙ omega arith) tt refl
+    counted v d u (null_entries v.tickets (good_size_of n)) 3 (ap entries_of_call d_is) (ap (λ x. x.tickets) u_is) (refl, (refl, (omega arith, tt))) refl
+turn_counts v d u (refused_not_held name free d_is u_is) = counted v d u [] 0 (ap entries_of_call d_is) (ap (λ x. x.tickets) u_is ∙ omega arith) tt refl
 turn_counts v d u (dropped name b names held d_is named u_is) =
-    counted v d u (end_entries v.tickets b) 1 (ap (entries_of_call 0) d_is) (ap (λ x. x.tickets) u_is) (refl, tt) refl
+    counted v d u (end_entries v.tickets b) 1 (ap entries_of_call d_is) (ap (λ x. x.tickets) u_is) (refl, tt) refl
 
 pub turn_pages : (v : Session) (d : CallRecord) (u : Session) → Turn v d u → u.pages ≡ v.pages
 turn_pages v d u (refused_held name n held d_is u_is) = ap (λ x. x.pages) u_is

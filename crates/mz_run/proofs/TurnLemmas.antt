@@ -101,6 +101,11 @@ pub Turns-append : (v : Session) (ds es : List CallRecord) (u w : Session) → T
 Turns-append v [] es u w h k = subst (λ (s : Session). Turns s es w) (sym h) k
 Turns-append v (d ∷ ds) es u w h k = (h.0, h.1, Turns-append h.0 ds es u w h.2 k)
 
+-- turns over two lists go by a session between them
+pub Turns-parts : (v : Session) (ds es : List CallRecord) (w : Session) → Turns v (ds ++ es) w → (u : Session) × Turns v ds u × Turns u es w
+Turns-parts v [] es w h = (v, refl, h)
+Turns-parts v (d ∷ ds) es w h = let rest = Turns-parts h.0 ds es w h.2 in (rest.0, (h.0, h.1, rest.1), rest.2)
+
 -- some turns, and then one more
 pub Turns-push : (v : Session) (ds : List CallRecord) (d : CallRecord) (u w : Session) → Turns v ds u → Turn u d w → Turns v (ds ++ d ∷ []) w
 Turns-push v ds d u w h k = Turns-append v ds (d ∷ []) u w h (w, k, refl)

@@ -1,12 +1,5 @@
 pub mod Built
-pub mod Names
 pub mod NamesMap
-pub mod Moments
-pub mod Fitting
-pub mod Entries
-pub mod Resizing
-pub mod LawfulRun
-pub mod Listing
 pub mod Blocks
 pub mod Session
 pub mod Passing

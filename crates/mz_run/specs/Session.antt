@@ -2,6 +2,7 @@
 use Rattle.std.specs.Prelude.{ℕ, ◌+◌, ◌-◌, ◌≡◌, ◌<◌, ◌≤◌, true, false, List, [], ◌∷◌, ◌++◌, length, map, max, sum_by, Option, None, Some, IsSome, IsTrue, if◌then◌else◌, ◌⊎◌}
 use Rattle.std.specs.List.{list_all}
 use Rattle.std.specs.Str.{bytes_eq}
+use Rattle.mz_base.specs.declared.range.Range.TheVariants as range
 use Rattle.mz_base.specs.Names.{is_base_name}
 use Rattle.mz_base.specs.Sizes.{good_size_of}
 use Rattle.mz_base.specs.Space.{Block, block_at, block_end, blocks_apart}
@@ -9,7 +10,6 @@ use Rattle.mz_history.specs.declared.place.Place.{Place}
 use Rattle.mz_history.specs.declared.place.Place.TheVariants.{Tiny, TinyDepot}
 use Rattle.mz_history.specs.declared.event.Event.{Event}
 use Rattle.mz_history.specs.declared.event.Event.TheVariants.{Take, New, End, Full, Dry}
-use Rattle.mz_history.specs.Places.{spot_of}
 use Rattle.mz_history.specs.State.{Kept, nothing_kept}
 use Rattle.mz_base.specs.Lists.{has_block, add_block, drop_block}
 use Rattle.mz_base.specs.Room.{any_has_room}
@@ -26,8 +26,9 @@ use Rattle.mz_trace.specs.declared.run.RunRound.{RunRound}
 use Rattle.mz_run.specs.declared.session.Session.{Session}
 use Rattle.mz_run.specs.Blocks.{the_region, region_end, IsQuanta, IsTiled}
 use Rattle.mz_trace.specs.declared.tail.Figures.{Figures}
+use Rattle.mz_trace.specs.declared.tail.Listed.{Listed}
+use Rattle.mz_fit.specs.Standing.{default_zone}
 use Rattle.mz_run.specs.NamesMap.{block_of}
-use Rattle.mz_run.specs.Listing.{listed}
 
 -- the magazine and the depot of caller 0 for tiny requests
 abbrev pub the_magazine : Place
@@ -158,10 +159,14 @@ pub data Turn (v : Session) (d : CallRecord) (u : Session) : Type 0 where
       → NamesWith v.names name None names
       → u ≡ after_dropping v names b → Turn v d u
 
+-- a block as it is listed: it is tiny, and of the zone default
+abbrev pub listed : Block → Listed
+listed b = record { a = b.first; s = b.size; range = range.Tiny; zone = default_zone }
+
 -- what stands behind the run that a session has made
 abbrev pub session_tail : Session → Figures
 session_tail v = record {
-  listing = map (λ b. listed (spot_of the_magazine, b)) v.live;
+  listing = map listed v.live;
   statistics = record {
     blocks_in_use = length v.live;
     size_in_use = v.in_use;

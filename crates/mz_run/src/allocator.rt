@@ -2,12 +2,12 @@
 
 ghost use Rattle.std.specs.Prelude.{◌≡◌, IfOk, OnOk, IsTrue, map};
 ghost use Rattle.std.specs.List.{list_all};
+ghost use Rattle.mz_fit.specs.LawfulRun.{IsLawfulRun};
+ghost use Rattle.mz_fit.specs.Tail.{tail_of};
 ghost use Rattle.mz_trace.specs.RunForms.{IsRun, IsTail};
 ghost use Rattle.mz_trace.specs.RunTexts.{round_of};
 ghost use Rattle.mz_trace.specs.Texts.{IsTrace};
 ghost use Rattle.mz_run.specs.Built.{IsBuilt, is_built_round};
-ghost use Rattle.mz_run.specs.LawfulRun.{IsLawfulRun};
-ghost use Rattle.mz_run.specs.Listing.{tail_of};
 ghost use Rattle.mz_run.specs.Session.{IsSound, RoundTurns, RoundsTurn};
 
 use crate::session::Session;

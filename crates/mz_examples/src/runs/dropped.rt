@@ -8,8 +8,8 @@ ghost use Rattle.mz_history.specs.History.{IsLawfulHistory};
 ghost use Rattle.mz_examples.specs.Examples.{profile_of, entry_of, magazine, depot, large, last_freed_block};
 ghost use Rattle.mz_examples.specs.Rows.{cache_limit, two_nano_pages, LAST_PAGE, slots};
 ghost use Rattle.mz_examples.specs.Cycles.{two_regions, put_aside, taken_again, given_back};
-ghost use Rattle.mz_run.specs.Fitting.{IsDropped};
-ghost use Rattle.mz_examples.specs.RunsServed.{two_regions_for_two, other_before_move, own_before_move};
+ghost use Rattle.mz_record.specs.Dropped.{IsDropped};
+ghost use Rattle.mz_examples.specs.RunsServed.{two_regions_for_two, other_before_move, other_moves_first, own_before_move};
 
 use mz_history::laws::lawful_without_breach;
 
@@ -53,10 +53,13 @@ pub fn in_nano()
     ensures { IsDropped two_nano_pages slots (block_at LAST_PAGE 48) (drop 2 slots) }
 {}
 
-/// The very next entry of the record needn't have the next ticket.
+/// The very next entry of the record needn't have the next ticket. But it is the one that meets the
+/// duty: where another caller did, the same event once more doesn't.
 pub fn with_other_caller_between()
     ensures lawful { IsLawfulHistory two_regions_for_two other_before_move }
     ensures dropped { IsDropped two_regions_for_two other_before_move (block_at 0 16)
+        (entry_of 9 (event.End magazine 0 16) ∷ entry_of 11 (event.Move 0 magazine depot) ∷ []) }
+    ensures done_by_other { ¬ IsDropped two_regions_for_two other_moves_first (block_at 0 16)
         (entry_of 9 (event.End magazine 0 16) ∷ entry_of 11 (event.Move 0 magazine depot) ∷ []) }
 {
     lawful_without_breach();

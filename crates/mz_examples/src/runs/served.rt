@@ -10,9 +10,8 @@ ghost use Rattle.mz_examples.specs.Examples.{profile_of, entry_of, magazine, oth
 ghost use Rattle.mz_examples.specs.Cycles.{MIB, two_regions, taken_again};
 ghost use Rattle.mz_examples.specs.Rows.{large_cache, two_zones, second_serves, two_nano_pages, LAST_PAGE, first_slot};
 ghost use Rattle.mz_examples.specs.Edges.{entry_of_other, small_magazine, small_block, one_cached};
-ghost use Rattle.mz_run.specs.Fitting.{AreFlushes, IsServed, IsUndisturbed};
-ghost use Rattle.mz_run.specs.LawfulRun.{request_by};
-ghost use Rattle.mz_examples.specs.RunsServed.{at_alignment, in_zone, region_after_flush, no_region, no_nine_pages, far_too_many, on_five, on_three, both_go_back, two_magazines, two_callers_in_8_pages, both_full, dry_at, with_other, other_behind, other_at_pages, looks_twice};
+ghost use Rattle.mz_record.specs.Served.{AreFlushes, IsServed, IsUndisturbed};
+ghost use Rattle.mz_examples.specs.RunsServed.{request_by, at_alignment, in_zone, region_after_flush, no_region, no_nine_pages, far_too_many, on_five, on_three, both_go_back, two_magazines, two_callers_in_8_pages, both_full, dry_at, with_other, other_behind, other_at_pages, looks_twice};
 
 use mz_history::laws::lawful_without_breach;
 

@@ -5,10 +5,10 @@ use Rattle.mz_trace.specs.declared.round.Round.{Round}
 use Rattle.mz_trace.specs.declared.run.RunRound.{RunRound}
 use Rattle.mz_trace.specs.declared.tail.Figures.{Figures}
 use Rattle.mz_trace.specs.declared.trace.Trace.{Trace}
+use Rattle.mz_fit.specs.LawfulRun.{IsLawfulRun}
+use Rattle.mz_fit.specs.Tail.{tail_of}
 use Rattle.mz_trace.specs.RunForms.{IsRun, IsTail}
 use Rattle.mz_run.specs.Built.{is_built_round}
-use Rattle.mz_run.specs.LawfulRun.{IsLawfulRun}
-use Rattle.mz_run.specs.Listing.{tail_of}
 use Rattle.mz_run.proofs.BuiltLemmas.{rounds_built}
 use Rattle.mz_run.proofs.RunLemmas.{run_is_lawful, tail_is_of_run}
 use Rattle.mz_run.proofs.RunTextLemmas.{run_has_text, tail_has_text}

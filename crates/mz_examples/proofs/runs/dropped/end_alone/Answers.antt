@@ -26,4 +26,4 @@ returns-clause-nothing c = λ d. d
 
 pub returns-clause-more : goal.returns-clause-more
 unfolding look_up write insert_by best_fit write_all after keeps after_all by_ticket first_breach
-returns-clause-more c = λ d. let due = d.2.0 in (cc)
+returns-clause-more c = λ d. let due = d.2.0.duty in (cc)

@@ -1,5 +1,6 @@
 use Rattle.std.proofs.Common.{refl}
 use Rattle.mz_examples.specs.Examples.{depot}
+use Rattle.mz_examples.proofs.MeetsTest.{meets}
 use Rattle.mz_history.specs.State.{look_up, write}
 use Rattle.mz_base.specs.Lists.{insert_by}
 use Rattle.mz_history.specs.Room.{best_fit}
@@ -10,7 +11,7 @@ use Rattle.mz_examples.proofs.runs.dropped.with_back.Goals as goal
 
 pub returns-clause-dropped : goal.returns-clause-dropped
 unfolding look_up write insert_by best_fit write_all after keeps after_all by_ticket first_breach
-returns-clause-dropped c = (depot, refl, (refl, refl))
+returns-clause-dropped c = (depot, refl, (meets refl refl, refl))
 
 pub returns-clause-left_out : goal.returns-clause-left_out
 unfolding look_up write insert_by best_fit write_all after keeps after_all by_ticket first_breach

@@ -1,6 +1,10 @@
-use Rattle.std.proofs.Common.{refl}
-use Rattle.mz_examples.specs.Examples.{magazine}
+use Rattle.std.proofs.Common.{refl, arith}
+use Rattle.std.proofs.lemmas.Bool.{false≢true}
+use Rattle.mz_history.specs.declared.event.Event.TheVariants as event
+use Rattle.mz_examples.specs.Edges.{entry_of_other}
+use Rattle.mz_examples.specs.Examples.{magazine, depot}
 use Rattle.mz_examples.specs.RunsServed.{two_regions_for_two, other_before_move}
+use Rattle.mz_examples.proofs.MeetsTest.{meets}
 use Rattle.mz_history.specs.State.{look_up, write}
 use Rattle.mz_base.specs.Lists.{insert_by}
 use Rattle.mz_history.specs.Room.{best_fit}
@@ -15,4 +19,8 @@ returns-clause-lawful c = (c.lawful_without_breach.ensures two_regions_for_two o
 
 pub returns-clause-dropped : goal.returns-clause-dropped
 unfolding look_up write insert_by best_fit write_all after keeps after_all by_ticket first_breach
-returns-clause-dropped c = (magazine, refl, (refl, refl))
+returns-clause-dropped c = (magazine, refl, (meets refl refl, refl))
+
+pub returns-clause-done_by_other : goal.returns-clause-done_by_other
+returns-clause-done_by_other c = λ dropped.
+    false≢true (dropped.2.0.first (entry_of_other 10 (event.Move 0 magazine depot)) (10, omega arith, refl) (omega arith) (omega arith))

@@ -1,53 +1,35 @@
-use Rattle.std.proofs.Common.{arith, refl, ◌++◌, [], ◌∷◌}
+use Rattle.std.proofs.Common.{arith, refl, [], ◌∷◌, ◌++◌, inl, inr}
+use Rattle.std.proofs.lemmas.Bool.{false≢true}
 use Rattle.mz_base.specs.Space.{block_at}
+use Rattle.mz_record.specs.Served as way
+use Rattle.mz_record.specs.Resized as size
 use Rattle.mz_history.specs.declared.event.Event.TheVariants as event
 use Rattle.mz_history.specs.declared.place.Place.TheVariants as place
-use Rattle.mz_history.specs.Places.{spot_at}
 use Rattle.mz_examples.specs.Examples.{entry_of}
 use Rattle.mz_examples.specs.Rows.{two_nano_pages, LAST_PAGE, first_slot}
-use Rattle.mz_run.specs.Fitting as way
-use Rattle.mz_run.specs.Resizing as size
-use Rattle.mz_examples.specs.RunsResized.{moves_in_nano, grows_in_nano, nano_next}
-use Rattle.mz_examples.proofs.UndisturbedTest.{undisturbed_by_test}
-use Rattle.mz_examples.proofs.ResizedTests.{moment_by_test, no_end_then_stays}
+use Rattle.mz_examples.specs.RunsResized.{moves_in_nano, grows_in_nano}
+use Rattle.mz_examples.proofs.ResizedTests.{no_end_then_stays}
+use Rattle.mz_examples.proofs.RunTests.{serves}
 use Rattle.mz_history.specs.State.{look_up, write}
 use Rattle.mz_base.specs.Lists.{insert_by}
 use Rattle.mz_history.specs.Room.{best_fit}
 use Rattle.mz_history.specs.Effect.{write_all, after}
 use Rattle.mz_history.specs.Rules.{keeps}
 use Rattle.mz_history.specs.History.{after_all, by_ticket, first_breach}
-use Rattle.mz_trace.specs.declared.answer.Answer.TheVariants as answers
-use Rattle.std.proofs.lemmas.Bool.{false≢true}
 use Rattle.mz_examples.proofs.runs.resized.in_nano.Goals as goal
-
-pub returns-clause-lawful : goal.returns-clause-lawful
-unfolding look_up write insert_by best_fit write_all after keeps after_all by_ticket first_breach
-returns-clause-lawful c = (c.lawful_without_breach.ensures two_nano_pages (first_slot ++ moves_in_nano)).0 refl
-
-pub returns-clause-moved : goal.returns-clause-moved
-unfolding look_up write insert_by best_fit write_all after keeps after_all by_ticket first_breach
-returns-clause-moved c = record {
-  z = 0;
-  zone = record { t = 1; moment = moment_by_test (first_slot ++ moves_in_nano) 0 (nano_next 100 moves_in_nano (answers.Block 1015808 112)) 1 (omega arith) refl refl; spot = spot_at place.Nano LAST_PAGE; live = refl; zone = refl };
-  resized = size.moved (block_at 1015808 112) (entry_of 1 (event.New place.Nano 1015808 112 16) ∷ []) (entry_of 2 (event.End place.Nano LAST_PAGE 48) ∷ []) (size.out_of_nano (λ same. (cc)) refl) refl (way.by_nano 1015808 refl (omega arith) (omega arith) refl refl refl) (undisturbed_by_test two_nano_pages (first_slot ++ moves_in_nano) 0 (entry_of 1 (event.New place.Nano 1015808 112 16) ∷ []) refl) (place.Nano, refl, refl) refl;
-}
 
 pub returns-clause-stays : goal.returns-clause-stays
 unfolding look_up write insert_by best_fit write_all after keeps after_all by_ticket first_breach
-returns-clause-stays c = record {
-  z = 0;
-  zone = record {
-    t = 1;
-    moment = moment_by_test first_slot 0 (nano_next 40 [] (answers.Block LAST_PAGE 48)) 1 (omega arith) refl refl;
-    spot = spot_at place.Nano LAST_PAGE;
-    live = refl;
-    zone = refl;
-  };
-  resized = size.same_size (omega arith) refl refl refl;
-}
+returns-clause-stays c = inl (size.same_size (omega arith) refl refl refl)
+
+pub returns-clause-lawful : goal.returns-clause-lawful
+unfolding look_up write insert_by best_fit write_all after keeps after_all by_ticket first_breach
+returns-clause-lawful c = (c.lawful_without_breach.ensures (two_nano_pages) (first_slot ++ moves_in_nano)).0 refl
+
+pub returns-clause-moved : goal.returns-clause-moved
+unfolding look_up write insert_by best_fit write_all after keeps after_all by_ticket first_breach
+returns-clause-moved c = inr (size.moved (block_at 1015808 112) (entry_of 1 (event.New place.Nano 1015808 112 16) ∷ []) (entry_of 2 (event.End place.Nano LAST_PAGE 48) ∷ []) (size.out_of_nano (λ same. (cc)) refl) refl (serves refl (way.by_nano 1015808 refl (omega arith) (omega arith) refl refl refl)) (place.Nano, refl, refl) refl)
 
 pub returns-clause-grown : goal.returns-clause-grown
-returns-clause-grown c = λ fits.
-    false≢true
-    (no_end_then_stays two_nano_pages (first_slot ++ grows_in_nano) 0 (nano_next 60 grows_in_nano (answers.Block LAST_PAGE 64)) fits.z (block_at LAST_PAGE 48) 60 grows_in_nano
-    (block_at LAST_PAGE 64) fits.resized refl)
+unfolding look_up write insert_by best_fit write_all after keeps after_all by_ticket first_breach
+returns-clause-grown c = λ done. false≢true (no_end_then_stays (two_nano_pages) (first_slot ++ grows_in_nano) 1 1 0 0 (block_at LAST_PAGE 48) 60 (grows_in_nano) (block_at LAST_PAGE 64) done refl)

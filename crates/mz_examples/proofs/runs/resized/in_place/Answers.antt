@@ -1,12 +1,10 @@
-use Rattle.std.proofs.Common.{arith, refl, ◌++◌}
+use Rattle.std.proofs.Common.{arith, refl, inl}
 use Rattle.std.proofs.lemmas.Bool.{false≢true}
 use Rattle.mz_base.specs.Space.{block_at}
-use Rattle.mz_history.specs.Places.{spot_of}
+use Rattle.mz_record.specs.Resized as size
 use Rattle.mz_examples.specs.Examples.{profile_of, magazine}
-use Rattle.mz_trace.specs.declared.answer.Answer.TheVariants as answers
-use Rattle.mz_run.specs.Resizing as size
-use Rattle.mz_examples.specs.RunsResized.{makes_a, resized_next, grows, row_realloc, at_growth, shrinks}
-use Rattle.mz_examples.proofs.ResizedTests.{no_end_then_stays, moment_by_test}
+use Rattle.mz_examples.specs.RunsResized.{grows, row_realloc}
+use Rattle.mz_examples.proofs.ResizedTests.{no_end_then_stays}
 use Rattle.mz_history.specs.State.{look_up, write}
 use Rattle.mz_base.specs.Lists.{insert_by}
 use Rattle.mz_history.specs.Room.{best_fit}
@@ -17,26 +15,20 @@ use Rattle.mz_examples.proofs.runs.resized.in_place.Goals as goal
 
 pub returns-clause-lawful : goal.returns-clause-lawful
 unfolding look_up write insert_by best_fit write_all after keeps after_all by_ticket first_breach
-returns-clause-lawful c = (c.lawful_without_breach.ensures (profile_of 64) row_realloc).0 refl
+returns-clause-lawful c = (c.lawful_without_breach.ensures (profile_of 64) (row_realloc)).0 refl
 
 pub returns-clause-growth : goal.returns-clause-growth
 unfolding look_up write insert_by best_fit write_all after keeps after_all by_ticket first_breach
-returns-clause-growth c = record {
-  z = 0;
-  zone = record { t = 4; moment = moment_by_test row_realloc 0 at_growth 4 (omega arith) refl refl; spot = spot_of magazine; live = refl; zone = refl };
-  resized = size.in_place magazine (record { asked = omega arith; ranges = refl; not_large = λ same. (cc); in_region = refl }) (λ same. (cc)) refl refl;
-}
+returns-clause-growth c = inl (size.in_place magazine (record { asked = omega arith; ranges = refl; not_large = λ same. (cc); in_region = refl }) (λ same. (cc)) refl refl)
 
 pub returns-clause-shrink : goal.returns-clause-shrink
 unfolding look_up write insert_by best_fit write_all after keeps after_all by_ticket first_breach
-returns-clause-shrink c = record {
-  z = 0;
-  zone = record { t = 4; moment = moment_by_test (makes_a ++ shrinks) 0 (resized_next 10 shrinks (answers.Block 0 16)) 4 (omega arith) refl refl; spot = spot_of magazine; live = refl; zone = refl };
-  resized = size.in_place magazine (record { asked = omega arith; ranges = refl; not_large = λ same. (cc); in_region = refl }) (λ same. (cc)) refl refl;
-}
+returns-clause-shrink c = inl (size.in_place magazine (record { asked = omega arith; ranges = refl; not_large = λ same. (cc); in_region = refl }) (λ same. (cc)) refl refl)
 
 pub returns-clause-old_size : goal.returns-clause-old_size
-returns-clause-old_size c = λ fits. false≢true (no_end_then_stays (profile_of 64) row_realloc 0 at_growth fits.z (block_at 0 48) 100 grows (block_at 0 48) fits.resized refl)
+unfolding look_up write insert_by best_fit write_all after keeps after_all by_ticket first_breach
+returns-clause-old_size c = λ done. false≢true (no_end_then_stays (profile_of 64) (row_realloc) 4 4 0 0 (block_at 0 48) 100 (grows) (block_at 0 48) done refl)
 
 pub returns-clause-other_size : goal.returns-clause-other_size
-returns-clause-other_size c = λ fits. false≢true (no_end_then_stays (profile_of 64) row_realloc 0 at_growth fits.z (block_at 0 48) 120 grows (block_at 0 112) fits.resized refl)
+unfolding look_up write insert_by best_fit write_all after keeps after_all by_ticket first_breach
+returns-clause-other_size c = λ done. false≢true (no_end_then_stays (profile_of 64) (row_realloc) 4 4 0 0 (block_at 0 48) 120 (grows) (block_at 0 112) done refl)

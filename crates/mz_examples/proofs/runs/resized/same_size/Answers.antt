@@ -1,13 +1,11 @@
-use Rattle.std.proofs.Common.{arith, refl, [], None}
+use Rattle.std.proofs.Common.{arith, refl, [], None, inl}
 use Rattle.std.proofs.lemmas.Bool.{false≢true}
 use Rattle.mz_base.specs.Space.{block_at}
-use Rattle.mz_history.specs.Places.{spot_of}
-use Rattle.mz_examples.specs.Examples.{profile_of, magazine}
-use Rattle.mz_trace.specs.declared.answer.Answer.TheVariants as answers
-use Rattle.mz_run.specs.Resizing as size
-use Rattle.mz_examples.specs.RunsResized.{makes_a, resized_next}
+use Rattle.mz_record.specs.Resized as size
+use Rattle.mz_examples.specs.Examples.{profile_of}
+use Rattle.mz_examples.specs.RunsResized.{makes_a}
 use Rattle.mz_examples.proofs.ServedTests.{served_in_order}
-use Rattle.mz_examples.proofs.ResizedTests.{no_end_then_stays, none_then_served, moment_by_test}
+use Rattle.mz_examples.proofs.ResizedTests.{no_end_then_stays, none_then_served}
 use Rattle.mz_history.specs.State.{look_up, write}
 use Rattle.mz_base.specs.Lists.{insert_by}
 use Rattle.mz_history.specs.Room.{best_fit}
@@ -18,14 +16,12 @@ use Rattle.mz_examples.proofs.runs.resized.same_size.Goals as goal
 
 pub returns-clause-fits : goal.returns-clause-fits
 unfolding look_up write insert_by best_fit write_all after keeps after_all by_ticket first_breach
-returns-clause-fits c = record {
-  z = 0;
-  zone = record { t = 4; moment = moment_by_test makes_a 0 (resized_next 40 [] (answers.Block 0 48)) 4 (omega arith) refl refl; spot = spot_of magazine; live = refl; zone = refl };
-  resized = size.same_size (omega arith) refl refl refl;
-}
+returns-clause-fits c = inl (size.same_size (omega arith) refl refl refl)
 
 pub returns-clause-larger : goal.returns-clause-larger
-returns-clause-larger c = λ fits. false≢true (no_end_then_stays (profile_of 64) makes_a 0 (resized_next 100 [] (answers.Block 0 48)) fits.z (block_at 0 48) 100 ([]) (block_at 0 48) fits.resized refl)
+unfolding look_up write insert_by best_fit write_all after keeps after_all by_ticket first_breach
+returns-clause-larger c = λ done. false≢true (no_end_then_stays (profile_of 64) (makes_a) 4 4 0 0 (block_at 0 48) 100 ([]) (block_at 0 48) done refl)
 
 pub returns-clause-none : goal.returns-clause-none
-returns-clause-none c = λ fits. false≢true (served_in_order (profile_of 64) (size.moving_request 0 fits.z 40) [] makes_a None (none_then_served (profile_of 64) makes_a 0 (resized_next 40 [] answers.Null) fits.z (block_at 0 48) 40 [] fits.resized))
+unfolding look_up write insert_by best_fit write_all after keeps after_all by_ticket first_breach
+returns-clause-none c = λ done. false≢true (served_in_order (profile_of 64) (size.moving_request 0 0 40) [] makes_a None (none_then_served (profile_of 64) makes_a 4 4 0 0 (block_at 0 48) 40 [] done))

@@ -4,8 +4,8 @@ use Rattle.mz_base.specs.Space.{block_at}
 use Rattle.mz_history.specs.declared.event.Event.TheVariants as event
 use Rattle.mz_examples.specs.Examples.{entry_of, magazine}
 use Rattle.mz_examples.specs.Cycles.{MIB, two_regions, taken_again}
-use Rattle.mz_run.specs.Fitting as way
-use Rattle.mz_run.specs.LawfulRun.{request_by}
+use Rattle.mz_record.specs.Served as way
+use Rattle.mz_examples.specs.RunsServed.{request_by}
 use Rattle.mz_examples.specs.RunsServed.{at_alignment}
 use Rattle.mz_examples.proofs.ServedTests.{served_ends, served_in_order}
 use Rattle.mz_examples.proofs.runs.served.by_depot.Goals as goal

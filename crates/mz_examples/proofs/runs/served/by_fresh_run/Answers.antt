@@ -4,8 +4,9 @@ use Rattle.mz_base.specs.Space.{block_at}
 use Rattle.mz_history.specs.declared.event.Event.TheVariants as event
 use Rattle.mz_examples.specs.Examples.{profile_of, entry_of, large, dry_with_a_cache}
 use Rattle.mz_examples.specs.Rows.{large_cache}
-use Rattle.mz_run.specs.Fitting as way
-use Rattle.mz_run.specs.LawfulRun.{request_by}
+use Rattle.mz_record.specs.Served as way
+use Rattle.mz_examples.specs.RunsServed.{request_by}
+use Rattle.mz_examples.proofs.MeetsTest.{meets}
 use Rattle.mz_examples.proofs.ServedTests.{served_ends, served_in_order}
 use Rattle.mz_history.specs.State.{look_up, write}
 use Rattle.mz_base.specs.Lists.{insert_by}
@@ -20,7 +21,7 @@ returns-clause-row c = way.by_fresh_run 11 (entry_of 9 (event.Full large 3 1)) [
 
 pub returns-clause-flushed : goal.returns-clause-flushed
 unfolding look_up write insert_by best_fit write_all after keeps after_all by_ticket first_breach
-returns-clause-flushed c = way.by_fresh_run 0 (entry_of 4 (event.Full large 7 1)) (take 2 (drop 5 dry_with_a_cache)) (drop 7 dry_with_a_cache) refl refl refl (refl, refl, tt) refl refl
+returns-clause-flushed c = way.by_fresh_run 0 (entry_of 4 (event.Full large 7 1)) (take 2 (drop 5 dry_with_a_cache)) (drop 7 dry_with_a_cache) refl refl refl (refl, meets refl refl, tt) refl refl
 
 pub returns-clause-no_back : goal.returns-clause-no_back
 returns-clause-no_back c = λ s. false≢true (served_in_order (profile_of 8) (request_by 0 100000) (entry_of 4 (event.Full large 7 1) ∷ entry_of 5 (event.Dry 0 7 1) ∷ drop 7 dry_with_a_cache) dry_with_a_cache (Some (block_at 0 114688)) s)

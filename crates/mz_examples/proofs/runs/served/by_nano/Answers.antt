@@ -5,8 +5,8 @@ use Rattle.mz_history.specs.declared.event.Event.TheVariants as event
 use Rattle.mz_history.specs.declared.place.Place.TheVariants as place
 use Rattle.mz_examples.specs.Examples.{profile_of, entry_of}
 use Rattle.mz_examples.specs.Rows.{two_nano_pages, LAST_PAGE, first_slot}
-use Rattle.mz_run.specs.Fitting as way
-use Rattle.mz_run.specs.LawfulRun.{request_by}
+use Rattle.mz_record.specs.Served as way
+use Rattle.mz_examples.specs.RunsServed.{request_by}
 use Rattle.mz_examples.specs.RunsServed.{at_alignment, in_zone}
 use Rattle.mz_examples.proofs.ServedTests.{served_ends}
 use Rattle.mz_examples.proofs.runs.served.by_nano.Goals as goal

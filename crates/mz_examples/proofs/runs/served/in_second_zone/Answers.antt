@@ -2,8 +2,8 @@ use Rattle.std.proofs.Common.{refl, [], Some, take, drop}
 use Rattle.std.proofs.lemmas.Bool.{false≢true}
 use Rattle.mz_base.specs.Space.{block_at}
 use Rattle.mz_examples.specs.Rows.{two_zones, second_serves}
-use Rattle.mz_run.specs.Fitting as way
-use Rattle.mz_run.specs.LawfulRun.{request_by}
+use Rattle.mz_record.specs.Served as way
+use Rattle.mz_examples.specs.RunsServed.{request_by}
 use Rattle.mz_examples.proofs.ServedTests.{served_ends}
 use Rattle.mz_examples.proofs.runs.served.in_second_zone.Goals as goal
 

@@ -4,8 +4,8 @@ use Rattle.mz_base.specs.Space.{block_at}
 use Rattle.mz_history.specs.declared.event.Event.TheVariants as event
 use Rattle.mz_examples.specs.Examples.{magazine}
 use Rattle.mz_examples.specs.Edges.{entry_of_other}
-use Rattle.mz_run.specs.Fitting as way
-use Rattle.mz_run.specs.LawfulRun.{request_by}
+use Rattle.mz_record.specs.Served as way
+use Rattle.mz_examples.specs.RunsServed.{request_by}
 use Rattle.mz_examples.specs.RunsServed.{two_magazines}
 use Rattle.mz_examples.proofs.ServedTests.{served_ends}
 use Rattle.mz_examples.proofs.runs.served.magazine_of_caller.Goals as goal

@@ -1,8 +1,9 @@
 use Rattle.std.proofs.Common.{refl, [], ◌∷◌, take, drop}
 use Rattle.mz_history.specs.declared.event.Event.TheVariants as event
 use Rattle.mz_examples.specs.Examples.{profile_of, entry_of, large}
-use Rattle.mz_run.specs.Fitting as way
-use Rattle.mz_run.specs.LawfulRun.{request_by}
+use Rattle.mz_record.specs.Served as way
+use Rattle.mz_examples.specs.RunsServed.{request_by}
+use Rattle.mz_examples.proofs.MeetsTest.{meets}
 use Rattle.mz_examples.specs.RunsServed.{no_nine_pages}
 use Rattle.mz_examples.proofs.ServedTests.{null_is_settled}
 use Rattle.mz_history.specs.State.{look_up, write}
@@ -19,7 +20,7 @@ returns-clause-lawful c = (c.lawful_without_breach.ensures (profile_of 8) no_nin
 
 pub returns-clause-none : goal.returns-clause-none
 unfolding look_up write insert_by best_fit write_all after keeps after_all by_ticket first_breach
-returns-clause-none c = way.null_in_large (entry_of 4 (event.Full large 9 1)) (entry_of 7 (event.Dry 0 9 1)) (take 2 (drop 5 no_nine_pages)) refl refl refl (refl, refl, tt) (record { event = refl; no_duty = refl }) refl
+returns-clause-none c = way.null_in_large (entry_of 4 (event.Full large 9 1)) (entry_of 7 (event.Dry 0 9 1)) (take 2 (drop 5 no_nine_pages)) refl refl refl (refl, meets refl refl, tt) (record { event = refl; no_duty = refl }) refl
 
 pub returns-clause-duty_left : goal.returns-clause-duty_left
 unfolding look_up write insert_by best_fit write_all after keeps after_all by_ticket first_breach

@@ -3,8 +3,9 @@ use Rattle.std.proofs.lemmas.Bool.{false≢true}
 use Rattle.mz_base.specs.Space.{block_at}
 use Rattle.mz_history.specs.declared.event.Event.TheVariants as event
 use Rattle.mz_examples.specs.Examples.{profile_of, entry_of, magazine, depot}
-use Rattle.mz_run.specs.Fitting as way
-use Rattle.mz_run.specs.LawfulRun.{request_by}
+use Rattle.mz_record.specs.Served as way
+use Rattle.mz_examples.specs.RunsServed.{request_by}
+use Rattle.mz_examples.proofs.MeetsTest.{meets}
 use Rattle.mz_examples.specs.RunsServed.{no_region}
 use Rattle.mz_examples.proofs.ServedTests.{served_ends, null_is_settled}
 use Rattle.mz_history.specs.State.{look_up, write}
@@ -21,7 +22,7 @@ returns-clause-lawful c = (c.lawful_without_breach.ensures (profile_of 8) no_reg
 
 pub returns-clause-none : goal.returns-clause-none
 unfolding look_up write insert_by best_fit write_all after keeps after_all by_ticket first_breach
-returns-clause-none c = way.null_in_range _ (take 2 (drop 4 no_region)) (take 2 (drop 6 no_region)) (entry_of 8 (event.Dry 0 64 64)) refl refl refl (refl, refl, tt) (record { event = refl; no_duty = refl }) refl
+returns-clause-none c = way.null_in_range _ (take 2 (drop 4 no_region)) (take 2 (drop 6 no_region)) (entry_of 8 (event.Dry 0 64 64)) refl refl refl (refl, meets refl refl, tt) (record { event = refl; no_duty = refl }) refl
 
 pub returns-clause-duty_left : goal.returns-clause-duty_left
 unfolding look_up write insert_by best_fit write_all after keeps after_all by_ticket first_breach

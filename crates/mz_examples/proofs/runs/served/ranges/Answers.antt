@@ -4,8 +4,8 @@ use Rattle.mz_base.specs.Space.{block_at}
 use Rattle.mz_history.specs.declared.event.Event.TheVariants as event
 use Rattle.mz_examples.specs.Examples.{profile_of, entry_of, large}
 use Rattle.mz_examples.specs.Edges.{small_block, one_cached}
-use Rattle.mz_run.specs.Fitting as way
-use Rattle.mz_run.specs.LawfulRun.{request_by}
+use Rattle.mz_record.specs.Served as way
+use Rattle.mz_examples.specs.RunsServed.{request_by}
 use Rattle.mz_examples.proofs.ServedTests.{served_ends}
 use Rattle.mz_examples.proofs.runs.served.ranges.Goals as goal
 

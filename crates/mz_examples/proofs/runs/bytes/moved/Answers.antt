@@ -1,0 +1,50 @@
+use Rattle.std.proofs.Common.{arith, refl, [], ◌∷◌, take, drop, inl, inr}
+use Rattle.std.proofs.lemmas.Bool.{leb-true}
+use Rattle.mz_base.specs.Space.{block_at}
+use Rattle.mz_record.specs.Served as way
+use Rattle.mz_record.specs.Resized as size
+use Rattle.mz_fit.specs.Records.{entries_of}
+use Rattle.mz_examples.specs.Examples.{profile_of, magazine}
+use Rattle.mz_examples.specs.RunsRows.{first_block, new_at, end_at}
+use Rattle.mz_examples.specs.RunsBytes.{moved_shown}
+use Rattle.mz_examples.proofs.RunTests.{serves}
+use Rattle.mz_history.specs.State.{look_up, write}
+use Rattle.mz_base.specs.Lists.{insert_by}
+use Rattle.mz_history.specs.Room.{best_fit}
+use Rattle.mz_history.specs.Effect.{write_all, after}
+use Rattle.mz_history.specs.Rules.{keeps}
+use Rattle.mz_history.specs.History.{after_all, by_ticket, first_breach}
+use Rattle.mz_record.specs.Listing.{by_address}
+use Rattle.mz_record.specs.Zones.{by_page}
+use Rattle.mz_fit.specs.Standing.{by_index}
+use Rattle.mz_examples.proofs.runs.bytes.moved.Goals as goal
+
+pub returns-clause-lawful : goal.returns-clause-lawful
+unfolding look_up write insert_by best_fit write_all after keeps after_all by_ticket first_breach by_address by_page by_index
+returns-clause-lawful c = record {
+  trace = refl;
+  history = (c.lawful_without_breach.ensures (profile_of 64) (entries_of (moved_shown 3 3))).0 refl;
+  fitting = (
+    record { answer = refl; entries = serves refl (way.by_fresh_region _ 0 0 (take 2 (first_block 48)) [] (drop 2 (first_block 48)) refl refl refl tt refl refl); bytes = refl; in_turn = refl },
+    (
+      record { answer = refl; entries = record { z = 0; zone = refl; entries = inl (size.in_place magazine (record { asked = omega arith; ranges = refl; not_large = λ same. (cc); in_region = refl }) (λ same. (cc)) refl refl) }; bytes = refl; in_turn = refl },
+      (
+        record { answer = refl; entries = serves refl (way.by_magazine _ 112 refl refl refl); bytes = refl; in_turn = refl },
+        (
+          record { answer = refl; entries = refl; bytes = refl; in_turn = refl },
+          (
+            record { answer = refl; entries = record { z = 0; zone = refl; entries = inr (size.moved (block_at 128 208) (new_at 6 128 208) (end_at 7 0 112) (size.hemmed_in (record { asked = omega arith; ranges = refl; not_large = λ same. (cc); in_region = refl }) (omega arith) (record { t = 6; not_before = leb-true _ _ refl; not_after = leb-true _ _ refl; within = leb-true _ _ refl; hemmed = (magazine, refl, refl, refl) })) refl (serves refl (way.by_magazine _ 128 refl refl refl)) (magazine, refl, refl) refl) }; bytes = refl; in_turn = refl },
+            (
+              record { answer = record { shown = 3 ∷ 3 ∷ []; many = refl; bytes = refl }; entries = refl; bytes = refl; in_turn = refl },
+              tt,
+            ),
+          ),
+        ),
+      ),
+    ),
+  );
+}
+
+pub returns-clause-other_byte : goal.returns-clause-other_byte
+unfolding look_up write insert_by best_fit write_all after keeps after_all by_ticket first_breach by_address by_page by_index
+returns-clause-other_byte c = refl

@@ -1,0 +1,48 @@
+use Rattle.std.proofs.Common.{refl, [], take, drop}
+use Rattle.mz_record.specs.Served as way
+use Rattle.mz_fit.specs.Records.{entries_of}
+use Rattle.mz_examples.specs.Examples.{profile_of, magazine}
+use Rattle.mz_examples.specs.RunsRows.{first_block, row_last_freed}
+use Rattle.mz_examples.proofs.RunTests.{serves, out_of_order}
+use Rattle.mz_history.specs.State.{look_up, write}
+use Rattle.mz_base.specs.Lists.{insert_by}
+use Rattle.mz_history.specs.Room.{best_fit}
+use Rattle.mz_history.specs.Effect.{write_all, after}
+use Rattle.mz_history.specs.Rules.{keeps}
+use Rattle.mz_history.specs.History.{after_all, by_ticket, first_breach}
+use Rattle.mz_record.specs.Listing.{by_address}
+use Rattle.mz_record.specs.Zones.{by_page}
+use Rattle.mz_fit.specs.Standing.{by_index}
+use Rattle.mz_examples.proofs.runs.rows.last_freed_block.Goals as goal
+
+pub returns-clause-lawful : goal.returns-clause-lawful
+unfolding look_up write insert_by best_fit write_all after keeps after_all by_ticket first_breach by_address by_page by_index
+returns-clause-lawful c = record {
+  trace = refl;
+  history = (c.lawful_without_breach.ensures (profile_of 64) (entries_of (row_last_freed))).0 refl;
+  fitting = (
+    record { answer = refl; entries = serves refl (way.by_fresh_region _ 0 0 (take 2 (first_block 48)) [] (drop 2 (first_block 48)) refl refl refl tt refl refl); bytes = refl; in_turn = refl },
+    (
+      record { answer = refl; entries = serves refl (way.by_magazine _ 48 refl refl refl); bytes = refl; in_turn = refl },
+      (
+        record { answer = refl; entries = (magazine, refl, refl); bytes = refl; in_turn = refl },
+        (
+          record { answer = refl; entries = serves refl (way.by_magazine _ 0 refl refl refl); bytes = refl; in_turn = refl },
+          tt,
+        ),
+      ),
+    ),
+  );
+}
+
+pub returns-clause-tail : goal.returns-clause-tail
+unfolding look_up write insert_by best_fit write_all after keeps after_all by_ticket first_breach by_address by_page by_index
+returns-clause-tail c = refl
+
+pub returns-clause-other_block : goal.returns-clause-other_block
+unfolding look_up write insert_by best_fit write_all after keeps after_all by_ticket first_breach by_address by_page by_index
+returns-clause-other_block c = λ same. (cc)
+
+pub returns-clause-left_out : goal.returns-clause-left_out
+unfolding look_up write insert_by best_fit write_all after keeps after_all by_ticket first_breach by_address by_page by_index
+returns-clause-left_out c = λ s. out_of_order s refl

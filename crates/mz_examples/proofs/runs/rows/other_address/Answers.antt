@@ -1,0 +1,47 @@
+use Rattle.std.proofs.Common.{refl, [], take, drop}
+use Rattle.mz_record.specs.Served as way
+use Rattle.mz_fit.specs.Records.{entries_of}
+use Rattle.mz_examples.specs.Examples.{profile_of, magazine}
+use Rattle.mz_examples.specs.RunsRows.{first_block, end_at, freed_behind}
+use Rattle.mz_examples.proofs.RunTests.{serves}
+use Rattle.mz_history.specs.State.{look_up, write}
+use Rattle.mz_base.specs.Lists.{insert_by}
+use Rattle.mz_history.specs.Room.{best_fit}
+use Rattle.mz_history.specs.Effect.{write_all, after}
+use Rattle.mz_history.specs.Rules.{keeps}
+use Rattle.mz_history.specs.History.{after_all, by_ticket, first_breach}
+use Rattle.mz_record.specs.Listing.{by_address}
+use Rattle.mz_record.specs.Zones.{by_page}
+use Rattle.mz_fit.specs.Standing.{by_index}
+use Rattle.mz_examples.proofs.runs.rows.other_address.Goals as goal
+
+pub returns-clause-lawful : goal.returns-clause-lawful
+unfolding look_up write insert_by best_fit write_all after keeps after_all by_ticket first_breach by_address by_page by_index
+returns-clause-lawful c = record {
+  trace = refl;
+  history = (c.lawful_without_breach.ensures (profile_of 64) (entries_of (freed_behind (end_at 5 48 48) 0))).0 refl;
+  fitting = (
+    record { answer = refl; entries = serves refl (way.by_fresh_region _ 0 0 (take 2 (first_block 48)) [] (drop 2 (first_block 48)) refl refl refl tt refl refl); bytes = refl; in_turn = refl },
+    (
+      record { answer = refl; entries = serves refl (way.by_magazine _ 48 refl refl refl); bytes = refl; in_turn = refl },
+      (
+        record { answer = refl; entries = (magazine, refl, refl); bytes = refl; in_turn = refl },
+        (
+          record { answer = refl; entries = refl; bytes = refl; in_turn = refl },
+          (
+            record { answer = refl; entries = refl; bytes = refl; in_turn = refl },
+            tt,
+          ),
+        ),
+      ),
+    ),
+  );
+}
+
+pub returns-clause-named_block : goal.returns-clause-named_block
+unfolding look_up write insert_by best_fit write_all after keeps after_all by_ticket first_breach by_address by_page by_index
+returns-clause-named_block c = λ dropped. let other = dropped.1 in (cc)
+
+pub returns-clause-still_held : goal.returns-clause-still_held
+unfolding look_up write insert_by best_fit write_all after keeps after_all by_ticket first_breach by_address by_page by_index
+returns-clause-still_held c = λ same. (cc)

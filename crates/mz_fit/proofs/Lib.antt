@@ -1,0 +1,3 @@
+mod CallerLemmas
+mod PartLemmas
+mod AnswerLemmas

@@ -1,0 +1,9 @@
+pub mod Records
+pub mod Names
+pub mod Standing
+pub mod Settings
+pub mod Tasks
+pub mod Fitting
+pub mod After
+pub mod LawfulRun
+pub mod Tail

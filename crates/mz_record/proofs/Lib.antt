@@ -1,0 +1,3 @@
+mod ByteLemmas
+mod CalmLemmas
+mod MadeLemmas

@@ -1,0 +1,7 @@
+pub mod Moments
+pub mod Served
+pub mod Dropped
+pub mod Resized
+pub mod Bytes
+pub mod Zones
+pub mod Listing

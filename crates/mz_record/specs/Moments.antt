@@ -1,0 +1,37 @@
+-- The state at an entry of a history and after its first entries, and the duty that an entry leaves. This project's own.
+use Rattle.std.specs.Prelude.{ℕ, ◌≡◌, ◌<◌, nat_lt, List, [], ◌∷◌, filter, map, take, not, Option, None, Some, IsTrue, Contains}
+use Rattle.mz_base.specs.declared.profile.Profile.{Profile}
+use Rattle.mz_history.specs.declared.entry.Entry.{Entry}
+use Rattle.mz_history.specs.declared.event.Event.{Event}
+use Rattle.mz_history.specs.Duties.{is_that}
+use Rattle.mz_history.specs.Effect.{touched}
+use Rattle.mz_history.specs.State.{State, opening, value_at}
+use Rattle.mz_history.specs.History.{after_entry, after_all, by_ticket}
+
+-- the state that the entries with tickets below t leave
+abbrev pub state_before : Profile → List Entry → ℕ → State
+state_before p h t = after_all p opening (filter (λ e. nat_lt e.ticket t) (by_ticket h))
+
+-- the state that the first t entries leave
+abbrev pub state_at : Profile → List Entry → ℕ → State
+state_at p h t = after_all p opening (take t (by_ticket h))
+
+-- the first that is one
+abbrev pub first_some : {A : Type 0} → List (Option A) → Option A
+first_some [] = None
+first_some (None ∷ os) = first_some os
+first_some (Some d ∷ os) = Some d
+
+-- the duty that stands, right after the entry, at a spot that it touched
+abbrev pub duty_left : Profile → List Entry → Entry → Option Event
+duty_left p h e = let s = after_entry p (state_before p h e.ticket) e in first_some (map (λ j. (value_at s j).duty) (touched p e.event))
+
+-- The entry d meets the duty that the entry e leaves: it is the first after e that is this event.
+pub record MeetsDuty (p : Profile) (h : List Entry) (e d : Entry) : Type 0 where
+  pub duty : duty_left p h e ≡ Some d.event
+  pub first : (x : Entry) → Contains h x → e.ticket < x.ticket → x.ticket < d.ticket → IsTrue (not (is_that d.event x.event))
+
+-- each entry leaves a duty that the next one meets, and the last leaves none
+abbrev pub MeetDuties : Profile → List Entry → Entry → List Entry → Type 0
+MeetDuties p h e [] = duty_left p h e ≡ None
+MeetDuties p h e (d ∷ ds) = MeetsDuty p h e d × MeetDuties p h d ds

@@ -1,0 +1,46 @@
+//! What holds of these definitions: each function's contract is a law.
+
+ghost use Rattle.std.specs.Prelude.{◌≡◌, ◌+◌, ◌≤◌, ℕ, true, List, [], map, length, not, Option, Some, IsTrue, Contains};
+ghost use Rattle.std.specs.List.{list_all};
+ghost use Rattle.mz_base.specs.declared.profile.Profile.{Profile};
+ghost use Rattle.mz_base.specs.Space.{Block};
+ghost use Rattle.mz_history.specs.declared.entry.Entry.{Entry as entry};
+ghost use Rattle.mz_record.specs.Bytes.{Bytes, fresh, cleared, filled, linked, kept_in_place, kept_in_move, is_shown_as};
+ghost use Rattle.mz_record.specs.Served.{Request, IsServed, IsUndisturbed, is_dry, first_made};
+
+use mz_history::laws::holding::{what_an_event_leaves, what_an_event_reads};
+
+/// As many bytes are known or unknown as the block has.
+pub fn byte_counts()
+    ensures fresh { (s : ℕ) → length (fresh s) ≡ s }
+    ensures cleared { (n : ℕ) (bs : Bytes) → n ≤ length bs → length (cleared n bs) ≡ length bs }
+    ensures filled { (s byte : ℕ) → length (filled s byte) ≡ s }
+    ensures linked { (off a : ℕ) (bs : Bytes) → off + 8 ≤ length bs → length (linked off a bs) ≡ length bs }
+    ensures in_place { (s : ℕ) (bs : Bytes) → length (kept_in_place s bs) ≡ s }
+    ensures in_move { (n s : ℕ) (bs : Bytes) → n ≤ s → length (kept_in_move n s bs) ≡ s }
+{}
+
+/// A block that keeps its size keeps its bytes, and one that moves to nothing keeps none. Bytes of which
+/// nothing is known may be shown as any, and known ones only as they are.
+pub fn bytes_are_kept()
+    ensures same_size { (bs : Bytes) → kept_in_place (length bs) bs ≡ bs }
+    ensures none { (s : ℕ) (bs : Bytes) → kept_in_move 0 s bs ≡ fresh s }
+    ensures unknown { (shown : List ℕ) → is_shown_as (fresh (length shown)) shown ≡ true }
+    ensures known { (bs shown : List ℕ) → is_shown_as (map (λ b. Some b) bs) shown ≡ true → shown ≡ bs }
+{}
+
+/// Nobody disturbs a request that finds no pages dry, and nobody does where there is no other caller.
+pub fn undisturbed()
+    ensures calm { (p : Profile) (h : List entry) (c : ℕ) (es : List entry) →
+        IsTrue (list_all (λ e. not (is_dry e.event)) es) → IsUndisturbed p h c es }
+    ensures alone { (p : Profile) (h : List entry) (c : ℕ) (es : List entry) →
+        ((x : entry) → Contains h x → x.caller ≡ c) → IsUndisturbed p h c es }
+{}
+
+/// What a request gets is the block that its entries make.
+pub fn served_is_made()
+    ensures { (p : Profile) (h : List entry) (q : Request) (es : List entry) (got : Option Block) → IsServed p h q es got → got ≡ first_made es }
+{
+    what_an_event_leaves();
+    what_an_event_reads();
+}

@@ -1,0 +1,17 @@
+mod NumberLemmas
+mod HeldLemmas
+mod HomeLemmas
+mod PairLemmas
+mod OwnerLemmas
+mod ListLemmas
+mod LiveLemmas
+mod LightLemmas
+mod DutyLemmas
+mod SlotLemmas
+mod NanoLemmas
+mod PlainLemmas
+mod OwnLemmas
+mod GrowthLemmas
+mod WordLemmas
+mod ClientLemmas
+mod ToyLemmas

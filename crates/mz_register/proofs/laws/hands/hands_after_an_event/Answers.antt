@@ -1,0 +1,8 @@
+use Rattle.mz_register.proofs.PairLemmas.{hand_is, hand_other}
+use Rattle.mz_register.proofs.laws.hands.hands_after_an_event.Goals as goal
+
+pub returns-clause-own : goal.returns-clause-own
+returns-clause-own c = hand_is
+
+pub returns-clause-others : goal.returns-clause-others
+returns-clause-others c = hand_other

@@ -1,0 +1,12 @@
+use Rattle.mz_history.specs.State.{opening}
+use Rattle.mz_history.specs.History.{after_all}
+use Rattle.mz_register.proofs.WordLemmas.{words_idle}
+use Rattle.mz_register.proofs.plain.PlainBook.act_as.Goals as goal
+
+pub invariant_of-self-clause-caller_in : goal.invariant_of-self-clause-caller_in
+invariant_of-self-clause-caller_in g c = c.requires.caller
+
+pub invariant_of-self-clause-words : goal.invariant_of-self-clause-words
+invariant_of-self-clause-words g c =
+    let b = c.args.self.now in
+    words_idle b.profile (after_all b.profile opening b.history.items) b.caller c.args.caller b.pairs.items b.pairs.items b.slots.items c.requires.nothing_held.lights b.words

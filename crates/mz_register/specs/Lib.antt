@@ -1,0 +1,12 @@
+pub mod Keepers
+pub mod Pairs
+pub mod Lights
+pub mod Account
+pub mod Calls
+pub mod Rule
+pub mod Plain
+pub mod Growth
+pub mod HistoryLaws
+pub mod Living
+pub mod Client
+pub mod Toys

@@ -1,0 +1,24 @@
+//! Lights of nano's slots, and what a call answers where it finds another word than it asked for.
+
+/// The held word of one slot of nano. `hold_light` alone makes it, and `release_light` takes it back. If it is dropped the slot stays
+/// held.
+#[derive(Drop)]
+pub struct Light {
+    pub(crate) block: u64,
+    pub(crate) slot: u64,
+}
+
+/// The word that a call found in place of the one that it asked for.
+#[derive(Clone, Copy, Debug, PartialEq, Eq)]
+pub struct Found {
+    pub word: u64,
+}
+
+/// What a call asked for.
+#[derive(Clone, Copy, Debug, PartialEq, Eq)]
+pub enum Asked {
+    /// That a block of nano has this class.
+    Settle { block: u64, class: u64 },
+    /// That a slot's word is `expect`.
+    HoldLight { block: u64, slot: u64, expect: u64 },
+}

@@ -1,0 +1,56 @@
+ghost use Rattle.std.specs.Prelude.{◌≡◌, IfOk};
+ghost use Rattle.mz_register.specs.Toys.{toy_profile, toy_site};
+ghost use Rattle.mz_register.specs.Plain.{opening_account};
+
+use crate::laws::client::note_both;
+use crate::laws::of_histories;
+use crate::{Book, PlainBook};
+use mz_history::{Entry, Event, Place};
+use std::alloc::{AllocError, Global};
+use std::test::Fail;
+use toy::{Toy, profile, toys};
+
+mod toy;
+
+fn book_of_toys(alloc: Global) -> Result<PlainBook<Toy>, AllocError>
+    ensures { IfOk result (λ b. ⟦<PlainBook<Toy> as Book<Toy>>⟧.account b ≡ opening_account toy_profile toy_site) }
+{
+    let p = profile();
+    PlainBook::new(alloc, &p, toys(alloc)?)
+}
+
+#[test]
+fn a_client_of_any_book_notes_two_events(rt: HostRuntime) -> Result<(), Fail> {
+    of_histories();
+    let mut book = book_of_toys(rt.alloc())?;
+    book.reserve(2)?;
+    let first = Event::Full {
+        k: Place::Tiny { zone: 0, mag: 0 },
+        n: 16,
+        al: 16,
+    };
+    let second = Event::Full {
+        k: Place::TinyDepot { zone: 0 },
+        n: 16,
+        al: 16,
+    };
+    let tickets = note_both(&rt, &mut book, 0, 1, first, second);
+    assert_eq!(rt; tickets, (0, 1));
+    assert_eq!(rt;
+        book.history(),
+        [
+            Entry {
+                ticket: 0,
+                caller: 0,
+                event: first
+            },
+            Entry {
+                ticket: 1,
+                caller: 0,
+                event: second
+            },
+        ]
+        .as_slice()
+    );
+    Ok(())
+}

@@ -1,0 +1,13 @@
+pub mod Idle
+pub mod Lists
+pub mod Rooms
+pub mod Searches
+pub mod Parts
+pub mod Order
+pub mod Rows
+pub mod Changes
+pub mod Resizes
+pub mod Regions
+pub mod KeepingRuns
+pub mod KeepingFreed
+pub mod Adopting

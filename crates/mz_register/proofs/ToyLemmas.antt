@@ -1,6 +1,6 @@
 -- The keepers of the tests stand for the places of their profile, and may be held while two events are noted.
 use Rattle.std.proofs.Common.{◌≡◌, ◌≢◌, ℕ, ◌<◌, ◌≤◌, ◌==◌, List, [], ◌∷◌, ◌++◌, length, true, false, refl, ap, sym, subst, ◌∙◌, zero, suc, arith, None}
-use Rattle.std.specs.Prelude.{map, ◌||◌, Result, Ok, Err, slice_get}
+use Rattle.std.specs.Prelude.{map, ◌||◌, slice_get}
 use Rattle.std.proofs.lemmas.Bool.{false≢true, eqb-true}
 use Rattle.mz_base.specs.declared.profile.Profile.{Profile}
 use Rattle.mz_base.specs.Limits.{IsWithinLimits}
@@ -16,11 +16,10 @@ use Rattle.mz_history.specs.Rules.{Fits}
 use Rattle.mz_history.specs.History.{after_all}
 use Rattle.mz_history.specs.Holding.{ReadsHeld}
 use Rattle.mz_history.specs.Standing.{Keeping, Stands}
-use Rattle.mz_register.specs.declared.light.Found.{Found}
 use Rattle.mz_register.specs.HistoryLaws.{HistoryLaws}
 use Rattle.mz_register.specs.Keepers.{keeper_count, keeper_spot, place_at, is_among, is_held}
 use Rattle.mz_register.specs.Account.{Account, state_of, known, holds_spot, entry_at}
-use Rattle.mz_register.specs.Calls.{CanNote, Notes, Settles}
+use Rattle.mz_register.specs.Calls.{CanNote, Notes}
 use Rattle.mz_register.specs.Client.{HasTaken, MayNoteBoth}
 use Rattle.mz_register.specs.Rule.{IsThere}
 use Rattle.mz_register.specs.Plain.{StandAtFirst, last_site}
@@ -202,8 +201,3 @@ module _ (L : HistoryLaws) (s : Account) (profile : s.profile ≡ toy_profile) (
     kept = λ t u v m n i h k o y. same_kept t h u m k v n o i y;
     calm = λ t u v m n i h k o y. still_calm t h u m k v n o i y;
   }
-
--- what stays while a class is settled
-pub settle_keeps : (s t : Account) (b class : ℕ) (r : Result (Unit {0}) Found) → Settles s b class r t → t.profile ≡ s.profile
-settle_keeps s t b class (Ok x) h = ap (λ (a : Account). a.profile) h.after
-settle_keeps s t b class (Err f) h = ap (λ (a : Account). a.profile) h.after

@@ -4,8 +4,8 @@ use Rattle.std.specs.Prelude.{nat_lt, not, ◌||◌}
 use Rattle.std.specs.List.{list_all}
 use Rattle.std.proofs.lemmas.Bool.{lt-ltb, or_cases}
 use Rattle.mz_base.specs.declared.profile.Profile.{Profile}
-use Rattle.mz_history.specs.declared.entry.Entry.{Entry}
-use Rattle.mz_history.specs.Duties.{is_that}
+use Rattle.mz_events.specs.declared.entry.Entry.{Entry}
+use Rattle.mz_events.specs.Duties.{is_that}
 use Rattle.mz_record.specs.Moments.{duty_left, MeetsDuty}
 use Rattle.mz_examples.proofs.UndisturbedTest.{all_at, flipped}
 

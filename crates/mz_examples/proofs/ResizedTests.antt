@@ -9,11 +9,11 @@ use Rattle.mz_base.specs.declared.range.Range.{Range}
 use Rattle.mz_base.specs.declared.range.Range.TheVariants as range
 use Rattle.mz_base.specs.Sizes.{route_of, good_size_of}
 use Rattle.mz_base.specs.Space.{Block, block_at, same_block, blocks_apart}
-use Rattle.mz_history.specs.declared.event.Event.{Event}
-use Rattle.mz_history.specs.declared.event.Event.TheVariants.{End, Size}
-use Rattle.mz_history.specs.declared.entry.Entry.{Entry}
-use Rattle.mz_history.specs.Places.{Spot, same_spot, spot_of}
-use Rattle.mz_history.specs.State.{State, Kept, Value, look_up}
+use Rattle.mz_events.specs.declared.event.Event.{Event}
+use Rattle.mz_events.specs.declared.event.Event.TheVariants.{End, Size}
+use Rattle.mz_events.specs.declared.entry.Entry.{Entry}
+use Rattle.mz_events.specs.Places.{Spot, same_spot, spot_of}
+use Rattle.mz_events.specs.State.{State, Kept, Value, look_up}
 use Rattle.mz_base.specs.Lists.{has_block}
 use Rattle.mz_base.specs.Room.{lies_in}
 use Rattle.mz_record.specs.Moments.{state_at}

@@ -9,15 +9,15 @@ use Rattle.mz_base.specs.declared.range.Range.{Range}
 use Rattle.mz_base.specs.declared.range.Range.TheVariants as range
 use Rattle.mz_base.specs.Sizes.{route_of, units_of}
 use Rattle.mz_base.specs.Space.{Block, Run, block_at}
-use Rattle.mz_history.specs.declared.place.Place.{Place}
-use Rattle.mz_history.specs.declared.place.Place.TheVariants.{Pages, Tiny, TinyDepot, Small, SmallDepot, Large, Nano}
-use Rattle.mz_history.specs.declared.event.Event.{Event}
-use Rattle.mz_history.specs.declared.event.Event.TheVariants.{Take, Move, New, Full, Dry}
-use Rattle.mz_history.specs.declared.entry.Entry.{Entry}
-use Rattle.mz_history.specs.Places.{spot_of, depot_of, is_nano, same_place}
-use Rattle.mz_history.specs.State.{kept_at}
-use Rattle.mz_history.specs.Room.{best_fit}
-use Rattle.mz_history.specs.Changes.{run_of}
+use Rattle.mz_events.specs.declared.place.Place.{Place}
+use Rattle.mz_events.specs.declared.place.Place.TheVariants.{Pages, Tiny, TinyDepot, Small, SmallDepot, Large, Nano}
+use Rattle.mz_events.specs.declared.event.Event.{Event}
+use Rattle.mz_events.specs.declared.event.Event.TheVariants.{Take, Move, New, Full, Dry}
+use Rattle.mz_events.specs.declared.entry.Entry.{Entry}
+use Rattle.mz_events.specs.Places.{spot_of, depot_of, is_nano, same_place}
+use Rattle.mz_events.specs.State.{kept_at}
+use Rattle.mz_events.specs.Room.{best_fit}
+use Rattle.mz_events.specs.Changes.{run_of}
 use Rattle.mz_record.specs.Moments.{state_before, duty_left}
 use Rattle.mz_record.specs.Served.{Request, Regional, regional_in, regional_for, IsForLarge, size_for, events, AreFlushes, IsServed, by_nano, by_magazine, by_depot, by_fresh_region, null_in_range, by_cache, by_fresh_run, null_in_large, is_dry}
 

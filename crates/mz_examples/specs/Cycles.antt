@@ -2,8 +2,8 @@
 -- histories, since they ask for a multiple of the region's length.
 use Rattle.std.specs.Prelude.{ℕ, ◌+◌, List, [], ◌∷◌, ◌++◌}
 use Rattle.mz_base.specs.declared.profile.Profile.{Profile}
-use Rattle.mz_history.specs.declared.event.Event.TheVariants.{Take, Back, Move, New, End, Full}
-use Rattle.mz_history.specs.declared.entry.Entry.{Entry}
+use Rattle.mz_events.specs.declared.event.Event.TheVariants.{Take, Back, Move, New, End, Full}
+use Rattle.mz_events.specs.declared.entry.Entry.{Entry}
 use Rattle.mz_examples.specs.Examples.{profile_of, entry_of, magazine, depot}
 
 -- the bytes of a tiny region

@@ -1,11 +1,11 @@
 -- Worked histories at the edges of the rules: what stands here is just within a rule, or just outside it.
 use Rattle.std.specs.Prelude.{ℕ, ◌+◌, List, [], ◌∷◌, ◌++◌, map}
 use Rattle.mz_base.specs.declared.profile.Profile.{Profile}
-use Rattle.mz_history.specs.declared.place.Place.{Place}
-use Rattle.mz_history.specs.declared.place.Place.TheVariants.{Small, SmallDepot, Large}
-use Rattle.mz_history.specs.declared.event.Event.{Event}
-use Rattle.mz_history.specs.declared.event.Event.TheVariants.{Take, Back, Move, New, End, Full, No, Open, Shut}
-use Rattle.mz_history.specs.declared.entry.Entry.{Entry}
+use Rattle.mz_events.specs.declared.place.Place.{Place}
+use Rattle.mz_events.specs.declared.place.Place.TheVariants.{Small, SmallDepot, Large}
+use Rattle.mz_events.specs.declared.event.Event.{Event}
+use Rattle.mz_events.specs.declared.event.Event.TheVariants.{Take, Back, Move, New, End, Full, No, Open, Shut}
+use Rattle.mz_events.specs.declared.entry.Entry.{Entry}
 use Rattle.mz_examples.specs.Examples.{profile_of, entry_of, magazine, depot, large, thin_path, until_dry}
 use Rattle.mz_examples.specs.Cycles.{MIB}
 use Rattle.mz_examples.specs.Rows.{second, second_serves}

@@ -1,13 +1,13 @@
 -- Worked histories, on which the definitions are tried.
 use Rattle.std.specs.Prelude.{ℕ, List, [], ◌∷◌, ◌++◌, Option, Some}
 use Rattle.mz_base.specs.declared.profile.Profile.{Profile}
-use Rattle.mz_history.specs.declared.place.Place.{Place}
-use Rattle.mz_history.specs.declared.place.Place.TheVariants.{Tiny, TinyDepot, Large}
-use Rattle.mz_history.specs.declared.event.Event.{Event}
-use Rattle.mz_history.specs.declared.event.Event.TheVariants.{Take, Back, New, End, Full, Dry}
-use Rattle.mz_history.specs.declared.entry.Entry.{Entry}
-use Rattle.mz_history.specs.Rules.{Rule}
-use Rattle.mz_history.specs.History.{Breach}
+use Rattle.mz_events.specs.declared.place.Place.{Place}
+use Rattle.mz_events.specs.declared.place.Place.TheVariants.{Tiny, TinyDepot, Large}
+use Rattle.mz_events.specs.declared.event.Event.{Event}
+use Rattle.mz_events.specs.declared.event.Event.TheVariants.{Take, Back, New, End, Full, Dry}
+use Rattle.mz_events.specs.declared.entry.Entry.{Entry}
+use Rattle.mz_events.specs.Rules.{Rule}
+use Rattle.mz_events.specs.History.{Breach}
 
 -- one caller, one magazine, no nano, one zone
 abbrev pub profile_of : ℕ → Profile

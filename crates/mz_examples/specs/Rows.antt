@@ -3,10 +3,10 @@
 use Rattle.std.specs.Prelude.{ℕ, ◌+◌, ◌*◌, List, [], ◌∷◌, ◌++◌, map}
 use Rattle.std.specs.List.{flat_map, range_with_len}
 use Rattle.mz_base.specs.declared.profile.Profile.{Profile}
-use Rattle.mz_history.specs.declared.place.Place.{Place}
-use Rattle.mz_history.specs.declared.place.Place.TheVariants.{Tiny, TinyDepot, Nano}
-use Rattle.mz_history.specs.declared.event.Event.TheVariants.{Take, Back, New, End, Size, Full, No, Open, Shut}
-use Rattle.mz_history.specs.declared.entry.Entry.{Entry}
+use Rattle.mz_events.specs.declared.place.Place.{Place}
+use Rattle.mz_events.specs.declared.place.Place.TheVariants.{Tiny, TinyDepot, Nano}
+use Rattle.mz_events.specs.declared.event.Event.TheVariants.{Take, Back, New, End, Size, Full, No, Open, Shut}
+use Rattle.mz_events.specs.declared.entry.Entry.{Entry}
 use Rattle.mz_examples.specs.Examples.{profile_of, entry_of, first_region, magazine, large}
 
 -- three blocks of 48 bytes, of which the first ends

@@ -7,7 +7,7 @@ use Rattle.mz_trace.specs.declared.run.CallRecord.{CallRecord}
 use Rattle.mz_trace.specs.declared.run.Run.{Run}
 use Rattle.mz_words.specs.declared.name.Name.{Name}
 use Rattle.mz_words.specs.declared.name.Name.TheVariants.{Given}
-use Rattle.mz_history.specs.declared.entry.Entry.{Entry}
+use Rattle.mz_events.specs.declared.entry.Entry.{Entry}
 use Rattle.mz_examples.specs.Records.{record_of, round_of_records, run_of_one}
 use Rattle.mz_examples.specs.RunsRows.{name_a, makes_a_block, new_at, end_at, resizes, grows_a, moves_a}
 use Rattle.mz_examples.specs.RunsZones.{two_in_128, given_a}

@@ -1,14 +1,14 @@
 -- Worked histories of blocks that are to have another size, with the places of these commands in their runs.
 use Rattle.std.specs.Prelude.{ℕ, List, [], ◌∷◌, ◌++◌, Option, codes}
-use Rattle.mz_history.specs.declared.event.Event.TheVariants.{Take, New, End, Size, Full, Dry, Open}
-use Rattle.mz_history.specs.declared.place.Place.{Place}
-use Rattle.mz_history.specs.declared.place.Place.TheVariants.{Nano}
-use Rattle.mz_history.specs.declared.entry.Entry.{Entry}
+use Rattle.mz_events.specs.declared.event.Event.TheVariants.{Take, New, End, Size, Full, Dry, Open}
+use Rattle.mz_events.specs.declared.place.Place.{Place}
+use Rattle.mz_events.specs.declared.place.Place.TheVariants.{Nano}
+use Rattle.mz_events.specs.declared.entry.Entry.{Entry}
 use Rattle.mz_base.specs.declared.profile.Profile.{Profile}
 use Rattle.mz_base.specs.Space.{Block, run_at, block_at}
 use Rattle.mz_record.specs.Resized.{IsReallocated}
-use Rattle.mz_history.specs.Places.{spot_of}
-use Rattle.mz_history.specs.State.{State, opening, blank, nothing_kept}
+use Rattle.mz_events.specs.Places.{spot_of}
+use Rattle.mz_events.specs.State.{State, opening, blank, nothing_kept}
 use Rattle.mz_examples.specs.Examples.{profile_of, entry_of, first_region, magazine, depot, large}
 use Rattle.mz_examples.specs.Rows.{LAST_PAGE, second}
 use Rattle.mz_examples.specs.Edges.{entry_of_other, two_callers, small_magazine, small_depot}

@@ -1,7 +1,7 @@
 -- A worked run of two rounds by two callers, whose tickets cross within the first round.
 use Rattle.std.specs.Prelude.{ℕ, List, [], ◌∷◌, ◌++◌, codes}
-use Rattle.mz_history.specs.declared.event.Event.TheVariants.{Take, New, End, Full, Dry, Open}
-use Rattle.mz_history.specs.declared.entry.Entry.{Entry}
+use Rattle.mz_events.specs.declared.event.Event.TheVariants.{Take, New, End, Full, Dry, Open}
+use Rattle.mz_events.specs.declared.entry.Entry.{Entry}
 use Rattle.mz_examples.specs.Examples.{entry_of, magazine, depot}
 use Rattle.mz_examples.specs.Edges.{entry_of_other, two_callers, small_magazine, small_depot}
 use Rattle.mz_trace.specs.declared.command.Command.TheVariants.{Malloc, Free}

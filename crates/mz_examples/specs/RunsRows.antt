@@ -1,9 +1,9 @@
 -- Worked runs of one caller in 64 pages, row by row, and spoiled ones.
 use Rattle.std.specs.Prelude.{ℕ, List, [], ◌∷◌, ◌++◌, replicate, codes}
 use Rattle.mz_base.specs.declared.range.Range.TheVariants as range
-use Rattle.mz_history.specs.declared.entry.Entry.{Entry}
-use Rattle.mz_history.specs.declared.event.Event.TheVariants.{Take, New, End, Full, Dry}
-use Rattle.mz_history.specs.declared.event.Event.TheVariants as event
+use Rattle.mz_events.specs.declared.entry.Entry.{Entry}
+use Rattle.mz_events.specs.declared.event.Event.TheVariants.{Take, New, End, Full, Dry}
+use Rattle.mz_events.specs.declared.event.Event.TheVariants as event
 use Rattle.mz_trace.specs.declared.answer.Answer.{Answer}
 use Rattle.mz_trace.specs.declared.answer.Answer.TheVariants as answers
 use Rattle.mz_trace.specs.declared.command.Command.{Command}

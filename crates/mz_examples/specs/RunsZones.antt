@@ -1,9 +1,9 @@
 -- Worked runs of several rounds, callers and zones, and spoiled ones: what is given, and zones of their own.
 use Rattle.std.specs.Prelude.{ℕ, List, [], ◌∷◌, codes}
 use Rattle.mz_base.specs.declared.profile.Profile.{Profile}
-use Rattle.mz_history.specs.declared.place.Place.TheVariants.{TinyDepot, Large}
-use Rattle.mz_history.specs.declared.event.Event.TheVariants.{Take, Back, New, End, Full, No, Open, Shut}
-use Rattle.mz_history.specs.declared.entry.Entry.{Entry}
+use Rattle.mz_events.specs.declared.place.Place.TheVariants.{TinyDepot, Large}
+use Rattle.mz_events.specs.declared.event.Event.TheVariants.{Take, Back, New, End, Full, No, Open, Shut}
+use Rattle.mz_events.specs.declared.entry.Entry.{Entry}
 use Rattle.mz_trace.specs.declared.answer.Answer.{Answer}
 use Rattle.mz_trace.specs.declared.answer.Answer.TheVariants as answers
 use Rattle.mz_trace.specs.declared.command.Command.TheVariants.{Malloc, Free, ZoneFree, Fill, Show, Give, Use}

@@ -1,8 +1,8 @@
 -- Worked histories of two zones that are served side by side.
 use Rattle.std.specs.Prelude.{List, [], ◌∷◌, ◌++◌}
 use Rattle.mz_base.specs.declared.profile.Profile.{Profile}
-use Rattle.mz_history.specs.declared.event.Event.TheVariants.{Take, New, End, Full}
-use Rattle.mz_history.specs.declared.entry.Entry.{Entry}
+use Rattle.mz_events.specs.declared.event.Event.TheVariants.{Take, New, End, Full}
+use Rattle.mz_events.specs.declared.entry.Entry.{Entry}
 use Rattle.mz_examples.specs.Examples.{profile_of, entry_of, magazine, depot}
 use Rattle.mz_examples.specs.Cycles.{MIB}
 use Rattle.mz_examples.specs.Rows.{second, second_serves}

@@ -8,14 +8,14 @@ pub mod zones;
 
 ghost use Rattle.std.specs.Prelude.{◌≡◌, ◌∷◌, [], ◌++◌, IsTrue};
 ghost use Rattle.mz_base.specs.Space.{block_at, run_at};
-ghost use Rattle.mz_history.specs.declared.event.Event.TheVariants as event;
-ghost use Rattle.mz_history.specs.Places.{spot_of};
-ghost use Rattle.mz_history.specs.Rules.{in_turn, duty_first, existing, takes_lowest, takes_claimed, backs_unused, backs_allowed, moves_in_by_duty, moves_out_claimed, fits_apart, placed, live_there, no_room, zone_changes};
-ghost use Rattle.mz_history.specs.State.{live_blocks, placed_runs};
-ghost use Rattle.mz_history.specs.History.{IsLawfulHistory, breach_of, state_of, owes_nothing};
+ghost use Rattle.mz_events.specs.declared.event.Event.TheVariants as event;
+ghost use Rattle.mz_events.specs.Places.{spot_of};
+ghost use Rattle.mz_events.specs.Rules.{in_turn, duty_first, existing, takes_lowest, takes_claimed, backs_unused, backs_allowed, moves_in_by_duty, moves_out_claimed, fits_apart, placed, live_there, no_room, zone_changes};
+ghost use Rattle.mz_events.specs.State.{live_blocks, placed_runs};
+ghost use Rattle.mz_events.specs.History.{IsLawfulHistory, breach_of, state_of, owes_nothing};
 ghost use Rattle.mz_examples.specs.Examples.{profile_of, entry_of, breach_at, magazine, other_magazine, depot, large, first_region, thin_path as first_block, last_freed_block as reused_block, half_a_region, until_dry, dry_with_a_cache as flushed_cache};
 
-use mz_history::laws::lawful_without_breach;
+use mz_events::laws::lawful_without_breach;
 
 /// Row `thin-path`: a first block of 112 bytes in 64 pages. It leaves that block live in its
 /// magazine, and 64 pages there, and nothing owed.

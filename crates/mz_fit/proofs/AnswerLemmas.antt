@@ -1,6 +1,6 @@
 -- A task and its entries leave one answer.
 use Rattle.std.proofs.Common.{◌≡◌, ℕ, List, sym, ◌∙◌, inl, inr, ◌⊎◌, ap, subst, []}
-use Rattle.mz_history.specs.declared.entry.Entry.{Entry}
+use Rattle.mz_events.specs.declared.entry.Entry.{Entry}
 use Rattle.mz_trace.specs.declared.answer.Answer.{Answer}
 use Rattle.mz_fit.specs.Records.{LineRecord, caller_of}
 use Rattle.mz_fit.specs.Settings.{Setting}

@@ -1,7 +1,7 @@
 -- What stands after a record: the fold over a run. This project's own.
 use Rattle.std.specs.Prelude.{ℕ, ◌+◌, ◌==◌, not, List, [], ◌∷◌, ◌++◌, filter, fold, Option, None, Some, if◌then◌else◌}
 use Rattle.mz_base.specs.Space.{Block}
-use Rattle.mz_history.specs.declared.entry.Entry.{Entry}
+use Rattle.mz_events.specs.declared.entry.Entry.{Entry}
 use Rattle.mz_words.specs.declared.name.Name.{Name}
 use Rattle.mz_record.specs.Bytes.{Bytes, fresh, cleared, filled, linked, kept_in_place, kept_in_move}
 use Rattle.mz_record.specs.Served.{blocks_made, first_made}

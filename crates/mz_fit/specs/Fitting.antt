@@ -1,8 +1,8 @@
 -- When a record fits: its answer, its entries, the bytes that it shows, and its tickets. This project's own.
 use Rattle.std.specs.Prelude.{ℕ, ◌+◌, ◌≡◌, Bool, true, nat_le, ◌&&◌, List, [], ◌∷◌, length, map, Option, None, Some, IsTrue}
 use Rattle.mz_base.specs.Space.{Block}
-use Rattle.mz_history.specs.declared.entry.Entry.{Entry}
-use Rattle.mz_history.specs.declared.event.Event.TheVariants.{Open}
+use Rattle.mz_events.specs.declared.entry.Entry.{Entry}
+use Rattle.mz_events.specs.declared.event.Event.TheVariants.{Open}
 use Rattle.mz_trace.specs.declared.answer.Answer.{Answer}
 use Rattle.mz_trace.specs.declared.answer.Answer.TheVariants as answers
 use Rattle.mz_record.specs.Served.{events, blocks_made, first_made, Serves, ServeInTurn}

@@ -1,7 +1,7 @@
 -- When a run of a trace is lawful. This project's own.
 use Rattle.std.specs.Prelude.{ℕ, ◌+◌, ◌≡◌, List, [], ◌∷◌, ◌++◌, fold}
 use Rattle.std.specs.List.{AllByRecursion}
-use Rattle.mz_history.specs.History.{IsLawfulHistory}
+use Rattle.mz_events.specs.History.{IsLawfulHistory}
 use Rattle.mz_trace.specs.declared.run.CallRecord.{CallRecord}
 use Rattle.mz_trace.specs.declared.run.RunRound.{RunRound}
 use Rattle.mz_trace.specs.declared.run.Run.{Run}

@@ -1,9 +1,9 @@
 -- Where a line stands in its run: what comes before it, and what it finds. This project's own.
 use Rattle.std.specs.Prelude.{ℕ, ◌+◌, List, [], ◌∷◌, length, drop, max, min}
 use Rattle.mz_base.specs.declared.profile.Profile.{Profile}
-use Rattle.mz_history.specs.declared.entry.Entry.{Entry}
-use Rattle.mz_history.specs.Hands.{own}
-use Rattle.mz_history.specs.State.{State}
+use Rattle.mz_events.specs.declared.entry.Entry.{Entry}
+use Rattle.mz_events.specs.Hands.{own}
+use Rattle.mz_events.specs.State.{State}
 use Rattle.mz_record.specs.Moments.{state_at}
 use Rattle.mz_fit.specs.Standing.{Standing}
 

@@ -3,9 +3,9 @@
 use Rattle.std.specs.Prelude.{List, map}
 use Rattle.mz_base.specs.declared.profile.Profile.{Profile}
 use Rattle.mz_base.specs.Space.{Block}
-use Rattle.mz_history.specs.Places.{Spot, place_of}
-use Rattle.mz_history.specs.State.{State}
-use Rattle.mz_history.specs.History.{state_of}
+use Rattle.mz_events.specs.Places.{Spot, place_of}
+use Rattle.mz_events.specs.State.{State}
+use Rattle.mz_events.specs.History.{state_of}
 use Rattle.mz_trace.specs.declared.run.Run.{Run}
 use Rattle.mz_trace.specs.declared.tail.Listed.{Listed}
 use Rattle.mz_trace.specs.declared.tail.Figures.{Figures}

@@ -17,7 +17,7 @@ use Rattle.mz_trace.specs.declared.round.RoundLine.TheVariants as round_line
 use Rattle.mz_trace.specs.Commands.{old_name, new_name}
 use Rattle.mz_words.specs.declared.name.Name.{Name}
 use Rattle.mz_words.specs.declared.name.Name.TheVariants as names
-use Rattle.mz_history.specs.State.{State}
+use Rattle.mz_events.specs.State.{State}
 use Rattle.mz_record.specs.Served.{Request}
 use Rattle.mz_record.specs.Zones.{zone_at, zone_of_block, live_from, live_in_zone}
 use Rattle.mz_fit.specs.Names.{same_name}

@@ -1,7 +1,7 @@
 //! What holds of these definitions: each function's contract is a law.
 
 ghost use Rattle.std.specs.Prelude.{◌≡◌, ◌≢◌, ◌++◌, ◌⊎◌, ℕ, List, []};
-ghost use Rattle.mz_history.specs.declared.entry.Entry.{Entry as entry};
+ghost use Rattle.mz_events.specs.declared.entry.Entry.{Entry as entry};
 ghost use Rattle.mz_trace.specs.declared.answer.Answer.{Answer as answer};
 ghost use Rattle.mz_trace.specs.declared.run.RunRound.{RunRound as run_round};
 ghost use Rattle.mz_fit.specs.Records.{LineRecord};

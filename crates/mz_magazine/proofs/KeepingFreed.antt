@@ -7,14 +7,14 @@ use Rattle.std.proofs.lemmas.Option.{same_Some, none-some}
 use Rattle.mz_base.specs.Space.{Block, block_at, block_end, blocks_apart, same_block}
 use Rattle.mz_base.specs.Lists.{insert_by, add_block, drop_block}
 use Rattle.mz_base.specs.Room.{lies_within, is_idle, is_front_within, is_at_front}
-use Rattle.mz_history.specs.declared.place.Place.{Place}
-use Rattle.mz_history.specs.declared.place.Place.TheVariants.{Pages, Tiny, TinyDepot, Small, SmallDepot, Large, Nano}
-use Rattle.mz_history.specs.Places.{is_magazine, is_depot}
-use Rattle.mz_history.specs.State.{Kept}
-use Rattle.mz_history.specs.Changes.{still_freed, with_block, without_block}
+use Rattle.mz_events.specs.declared.place.Place.{Place}
+use Rattle.mz_events.specs.declared.place.Place.TheVariants.{Pages, Tiny, TinyDepot, Small, SmallDepot, Large, Nano}
+use Rattle.mz_events.specs.Places.{is_magazine, is_depot}
+use Rattle.mz_events.specs.State.{Kept}
+use Rattle.mz_events.specs.Changes.{still_freed, with_block, without_block}
 use Rattle.mz_magazine.specs.Row.{RowView, is_idle_in, lies_in_row, has_room_at, without_region_at}
-use Rattle.mz_history.specs.Placement.{is_placed_in_magazine, serves}
-use Rattle.mz_history.specs.Room.{wide, narrow}
+use Rattle.mz_events.specs.Placement.{is_placed_in_magazine, serves}
+use Rattle.mz_events.specs.Room.{wide, narrow}
 use Rattle.std.proofs.Math.Nat.{mul-div_right}
 use Rattle.mz_magazine.specs.Keeping.{freed_at, keeping_of, IsIdleFreed}
 use Rattle.mz_magazine.proofs.Idle.{among, front_is_idle, idle_is_room, idle_from_test}

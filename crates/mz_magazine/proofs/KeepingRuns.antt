@@ -11,8 +11,8 @@ use Rattle.mz_base.specs.declared.range.TheConstants.{PAGE}
 use Rattle.mz_base.specs.Space.{Block, Run, run_end, block_end}
 use Rattle.mz_base.specs.Lists.{size_sum, run_bytes}
 use Rattle.mz_base.specs.Room.{lies_in, lies_within, has_room, has_room_within, is_at_front, is_front_of, is_front_within}
-use Rattle.mz_history.specs.State.{Kept}
-use Rattle.mz_history.specs.Duties.{is_in_excess, is_sparse, is_unused}
+use Rattle.mz_events.specs.State.{Kept}
+use Rattle.mz_events.specs.Duties.{is_in_excess, is_sparse, is_unused}
 use Rattle.mz_magazine.specs.Row.{lies_in_row, has_room_at, is_unused_at, is_sparse_at}
 use Rattle.mz_magazine.specs.Keeping.{IsWholePages, run_from}
 use Rattle.mz_magazine.proofs.Rooms.{multiple_of}

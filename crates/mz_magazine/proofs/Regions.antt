@@ -14,7 +14,7 @@ use Rattle.mz_base.specs.Space.{Block, block_at, block_end, blocks_apart}
 use Rattle.mz_base.specs.Lists.{insert_by, add_block, size_sum}
 use Rattle.mz_base.specs.Room.{lies_within}
 use Rattle.mz_region.specs.Views.{RegionView, AreInRow, IsRegion}
-use Rattle.mz_history.specs.Standing.{IsOf}
+use Rattle.mz_events.specs.Standing.{IsOf}
 use Rattle.mz_magazine.specs.Row.{lies_in_row, blocks_within, with_region_at, without_region_at}
 use Rattle.mz_magazine.specs.Members.{space_of, live_of, row_of, AreInOrder, IsKept}
 use Rattle.mz_magazine.proofs.Lists.{insert_between, filter_all, filter_nothing, filter_parts, any_nothing, any_weaker}

@@ -5,9 +5,9 @@ use Rattle.std.specs.Option.{option_map}
 use Rattle.mz_base.specs.declared.range.TheConstants.{PAGE}
 use Rattle.mz_base.specs.Space.{Block, Run, block_at, run_at}
 use Rattle.mz_base.specs.Site.{Site, site_code}
-use Rattle.mz_history.specs.State.{Kept}
-use Rattle.mz_history.specs.Codes.{kept_code}
-use Rattle.mz_history.specs.Standing.{RegionsKept}
+use Rattle.mz_events.specs.State.{Kept}
+use Rattle.mz_events.specs.Codes.{kept_code}
+use Rattle.mz_events.specs.Standing.{RegionsKept}
 use Rattle.mz_magazine.specs.Row.{RowView, is_idle_in}
 
 -- A region of N quanta of Q bytes is some whole pages. Runs are counted in pages, so they tell such regions alone.

@@ -20,7 +20,7 @@
 //!
 //! To the crates above, this one promises that a magazine is what a place of a history keeps: each
 //! call does with the runs, the live blocks and the last freed block what the definitions of
-//! `mz_history` say of its event, and refuses just where they do. Runs are counted in pages; where
+//! `mz_events` say of its event, and refuses just where they do. Runs are counted in pages; where
 //! a region isn't whole pages, clauses that say where something lies don't speak of it.
 #![tactic(auto)]
 

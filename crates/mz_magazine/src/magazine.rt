@@ -9,19 +9,19 @@ ghost use Rattle.mz_base.specs.Space.{block_at, block_end, blocks_apart, runs_ap
 ghost use Rattle.mz_base.specs.Room.{lies_in, has_room, any_has_room};
 ghost use Rattle.mz_base.specs.Lists.{has_run, has_block, size_at, blocks_in};
 ghost use Rattle.mz_base.specs.declared.range.TheConstants.{PAGE};
-ghost use Rattle.mz_history.specs.declared.place.Place.{Place as place};
-ghost use Rattle.mz_history.specs.Places.{is_magazine, is_depot};
-ghost use Rattle.mz_history.specs.State.{nothing_kept};
-ghost use Rattle.mz_history.specs.Room.{wide};
-ghost use Rattle.mz_history.specs.Changes.{still_freed, with_block, without_block, resized, with_region, without_run};
-ghost use Rattle.mz_history.specs.Duties.{is_in_excess, is_sparse, is_unused};
-ghost use Rattle.mz_history.specs.Placement.{is_placed_in_magazine};
-ghost use Rattle.mz_history.specs.Standing.{IsOf};
+ghost use Rattle.mz_events.specs.declared.place.Place.{Place as place};
+ghost use Rattle.mz_events.specs.Places.{is_magazine, is_depot};
+ghost use Rattle.mz_events.specs.State.{nothing_kept};
+ghost use Rattle.mz_events.specs.Room.{wide};
+ghost use Rattle.mz_events.specs.Changes.{still_freed, with_block, without_block, resized, with_region, without_run};
+ghost use Rattle.mz_events.specs.Duties.{is_in_excess, is_sparse, is_unused};
+ghost use Rattle.mz_events.specs.Placement.{is_placed_in_magazine};
+ghost use Rattle.mz_events.specs.Standing.{IsOf};
 ghost use Rattle.mz_magazine.specs.Keeping.{IsWholePages, run_from, freed_at};
 
 use crate::row::Row;
+use mz_events::Keep;
 use mz_ground::Span;
-use mz_history::Keep;
 use mz_region::Region;
 use std::alloc::{AllocError, Global};
 use std::marker::Model;
@@ -40,7 +40,7 @@ pub struct Magazine<const Q: usize, const N: usize> {
 }
 
 impl<const Q: usize, const N: usize> Model for Magazine<Q, N> {
-    ghost use Rattle.mz_history.specs.Standing.{RegionsKept};
+    ghost use Rattle.mz_events.specs.Standing.{RegionsKept};
     ghost use Rattle.mz_magazine.specs.Keeping.{keeping_code};
 
     ghost Value = { RegionsKept };
@@ -55,8 +55,8 @@ impl<const Q: usize, const N: usize> Model for Magazine<Q, N> {
 }
 
 impl<const Q: usize, const N: usize> Keep for Magazine<Q, N> {
-    ghost use Rattle.mz_history.specs.Standing.{Keeping};
-    ghost use Rattle.mz_history.specs.Standing.Keeping.{of_regions};
+    ghost use Rattle.mz_events.specs.Standing.{Keeping};
+    ghost use Rattle.mz_events.specs.Standing.Keeping.{of_regions};
 
     ghost keeping = { λ m. of_regions m };
 }

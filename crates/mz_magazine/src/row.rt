@@ -9,7 +9,7 @@ ghost use Rattle.mz_base.specs.Space.{block_at, block_end, blocks_apart};
 ghost use Rattle.mz_base.specs.Room.{lies_within, is_front_within};
 ghost use Rattle.mz_base.specs.Lists.{insert_by, add_block, drop_block, has_block, size_at, size_sum};
 ghost use Rattle.mz_region.specs.Views.{IsRegion};
-ghost use Rattle.mz_history.specs.Standing.{IsOf};
+ghost use Rattle.mz_events.specs.Standing.{IsOf};
 ghost use Rattle.mz_magazine.specs.Row.{IsRow, IsNewInRow, lies_in_row, is_idle_in, blocks_within, is_unused_at, is_sparse_at, has_room_at, with_region_at, without_region_at};
 
 use crate::member::Member;

@@ -7,15 +7,15 @@ use Rattle.std.proofs.lemmas.Bool.{and_parts, false≢true}
 use Rattle.mz_base.specs.declared.profile.Profile.{Profile}
 use Rattle.mz_base.specs.Space.{Block, Run}
 use Rattle.mz_base.specs.Sizes.{units_of}
-use Rattle.mz_history.specs.declared.place.Place.{Place}
-use Rattle.mz_history.specs.declared.place.Place.TheVariants.{Large}
-use Rattle.mz_history.specs.declared.event.Event.{Event}
-use Rattle.mz_history.specs.declared.event.Event.TheVariants.{Take, Back, Move, New, End, Size, Full, Dry, No, Open, Shut}
-use Rattle.mz_history.specs.declared.entry.Entry.{Entry}
-use Rattle.mz_history.specs.Places.{Spot, is_magazine, is_depot, is_large, depot_of, spot_of, same_spot}
-use Rattle.mz_history.specs.State.{State, Kept, kept_at, value_at}
-use Rattle.mz_history.specs.Duties.{is_in_excess, is_sparse, is_unused, recirculation, empty_depot_region, back_of_oldest, death_row, duty_of_end, duty_after}
-use Rattle.mz_history.specs.Effect.{touched, touches, value_after, kept_after, after}
+use Rattle.mz_events.specs.declared.place.Place.{Place}
+use Rattle.mz_events.specs.declared.place.Place.TheVariants.{Large}
+use Rattle.mz_events.specs.declared.event.Event.{Event}
+use Rattle.mz_events.specs.declared.event.Event.TheVariants.{Take, Back, Move, New, End, Size, Full, Dry, No, Open, Shut}
+use Rattle.mz_events.specs.declared.entry.Entry.{Entry}
+use Rattle.mz_events.specs.Places.{Spot, is_magazine, is_depot, is_large, depot_of, spot_of, same_spot}
+use Rattle.mz_events.specs.State.{State, Kept, kept_at, value_at}
+use Rattle.mz_events.specs.Duties.{is_in_excess, is_sparse, is_unused, recirculation, empty_depot_region, back_of_oldest, death_row, duty_of_end, duty_after}
+use Rattle.mz_events.specs.Effect.{touched, touches, value_after, kept_after, after}
 use Rattle.mz_record.specs.Moments.{state_before, first_some, duty_left}
 use Rattle.mz_record.specs.Served.{Request, events, AreFlushes, IsServed, by_nano, by_magazine, by_depot, by_fresh_region, null_in_range, by_cache, by_fresh_run, null_in_large, block_made, first_made}
 

@@ -3,9 +3,9 @@
 use Rattle.std.specs.Prelude.{ℕ, ◌≡◌, List, [], ◌∷◌, ◌++◌}
 use Rattle.mz_base.specs.declared.profile.Profile.{Profile}
 use Rattle.mz_base.specs.Space.{Block}
-use Rattle.mz_history.specs.declared.place.Place.{Place}
-use Rattle.mz_history.specs.declared.event.Event.TheVariants.{End, No}
-use Rattle.mz_history.specs.declared.entry.Entry.{Entry}
+use Rattle.mz_events.specs.declared.place.Place.{Place}
+use Rattle.mz_events.specs.declared.event.Event.TheVariants.{End, No}
+use Rattle.mz_events.specs.declared.entry.Entry.{Entry}
 use Rattle.mz_record.specs.Moments.{MeetDuties}
 
 -- The entries es of the history h drop a block: it ends in its place, and then come the duties, each at once.

@@ -6,10 +6,10 @@ use Rattle.mz_base.specs.declared.range.Range.{Range}
 use Rattle.mz_base.specs.declared.range.Range.TheVariants as range
 use Rattle.mz_base.specs.Space.{Block}
 use Rattle.mz_base.specs.Lists.{insert_by}
-use Rattle.mz_history.specs.declared.place.Place.{Place}
-use Rattle.mz_history.specs.declared.place.Place.TheVariants.{Pages, Tiny, TinyDepot, Small, SmallDepot, Large, Nano}
-use Rattle.mz_history.specs.Places.{Spot, spot_of}
-use Rattle.mz_history.specs.State.{State, live_blocks, live_size, kept_at}
+use Rattle.mz_events.specs.declared.place.Place.{Place}
+use Rattle.mz_events.specs.declared.place.Place.TheVariants.{Pages, Tiny, TinyDepot, Small, SmallDepot, Large, Nano}
+use Rattle.mz_events.specs.Places.{Spot, spot_of}
+use Rattle.mz_events.specs.State.{State, live_blocks, live_size, kept_at}
 
 -- the range of a place's blocks; none live in the free pages, of which this says nothing
 abbrev pub range_of : Place → Range

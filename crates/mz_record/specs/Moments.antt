@@ -1,12 +1,12 @@
 -- The state at an entry of a history and after its first entries, and the duty that an entry leaves. This project's own.
 use Rattle.std.specs.Prelude.{ℕ, ◌≡◌, ◌<◌, nat_lt, List, [], ◌∷◌, filter, map, take, not, Option, None, Some, IsTrue, Contains}
 use Rattle.mz_base.specs.declared.profile.Profile.{Profile}
-use Rattle.mz_history.specs.declared.entry.Entry.{Entry}
-use Rattle.mz_history.specs.declared.event.Event.{Event}
-use Rattle.mz_history.specs.Duties.{is_that}
-use Rattle.mz_history.specs.Effect.{touched}
-use Rattle.mz_history.specs.State.{State, opening, value_at}
-use Rattle.mz_history.specs.History.{after_entry, after_all, by_ticket}
+use Rattle.mz_events.specs.declared.entry.Entry.{Entry}
+use Rattle.mz_events.specs.declared.event.Event.{Event}
+use Rattle.mz_events.specs.Duties.{is_that}
+use Rattle.mz_events.specs.Effect.{touched}
+use Rattle.mz_events.specs.State.{State, opening, value_at}
+use Rattle.mz_events.specs.History.{after_entry, after_all, by_ticket}
 
 -- the state that the entries with tickets below t leave
 abbrev pub state_before : Profile → List Entry → ℕ → State

@@ -9,11 +9,11 @@ use Rattle.mz_base.specs.Sizes.{route_of, good_size_of}
 use Rattle.mz_base.specs.Space.{Block, block_at, blocks_apart}
 use Rattle.mz_base.specs.Lists.{has_block}
 use Rattle.mz_base.specs.Room.{lies_in}
-use Rattle.mz_history.specs.declared.place.Place.{Place}
-use Rattle.mz_history.specs.declared.event.Event.TheVariants.{Size}
-use Rattle.mz_history.specs.declared.entry.Entry.{Entry}
-use Rattle.mz_history.specs.Places.{is_magazine, is_depot, spot_of, nano_start}
-use Rattle.mz_history.specs.State.{State, kept_at}
+use Rattle.mz_events.specs.declared.place.Place.{Place}
+use Rattle.mz_events.specs.declared.event.Event.TheVariants.{Size}
+use Rattle.mz_events.specs.declared.entry.Entry.{Entry}
+use Rattle.mz_events.specs.Places.{is_magazine, is_depot, spot_of, nano_start}
+use Rattle.mz_events.specs.State.{State, kept_at}
 use Rattle.mz_record.specs.Moments.{state_at}
 use Rattle.mz_record.specs.Served.{Request, events, first_made, Serves}
 use Rattle.mz_record.specs.Dropped.{IsDropped}

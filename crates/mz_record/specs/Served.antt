@@ -9,16 +9,16 @@ use Rattle.mz_base.specs.declared.range.Range.{Range}
 use Rattle.mz_base.specs.declared.range.Range.TheVariants as range
 use Rattle.mz_base.specs.Sizes.{route_of, units_of, good_size_of}
 use Rattle.mz_base.specs.Space.{Block, block_at}
-use Rattle.mz_history.specs.declared.place.Place.{Place}
-use Rattle.mz_history.specs.declared.place.Place.TheVariants.{Tiny, Small, Large, Nano}
-use Rattle.mz_history.specs.declared.event.Event.{Event}
-use Rattle.mz_history.specs.declared.event.Event.TheVariants.{Take, Move, New, Size, Full, Dry}
-use Rattle.mz_history.specs.declared.entry.Entry.{Entry}
-use Rattle.mz_history.specs.Places.{depot_of, spot_of, Spot}
-use Rattle.mz_history.specs.State.{kept_at}
-use Rattle.mz_history.specs.Room.{best_fit}
-use Rattle.mz_history.specs.Effect.{touches}
-use Rattle.mz_history.specs.Changes.{run_of}
+use Rattle.mz_events.specs.declared.place.Place.{Place}
+use Rattle.mz_events.specs.declared.place.Place.TheVariants.{Tiny, Small, Large, Nano}
+use Rattle.mz_events.specs.declared.event.Event.{Event}
+use Rattle.mz_events.specs.declared.event.Event.TheVariants.{Take, Move, New, Size, Full, Dry}
+use Rattle.mz_events.specs.declared.entry.Entry.{Entry}
+use Rattle.mz_events.specs.Places.{depot_of, spot_of, Spot}
+use Rattle.mz_events.specs.State.{kept_at}
+use Rattle.mz_events.specs.Room.{best_fit}
+use Rattle.mz_events.specs.Effect.{touches}
+use Rattle.mz_events.specs.Changes.{run_of}
 use Rattle.mz_record.specs.Moments.{state_before, duty_left, first_some, MeetsDuty}
 
 -- a request by a caller, in a zone, for some bytes at an alignment

@@ -4,10 +4,10 @@ use Rattle.std.specs.Prelude.{ℕ, ◌==◌, List, [], ◌∷◌, filter, find, 
 use Rattle.std.specs.Option.{option_map}
 use Rattle.mz_base.specs.Space.{Block, Run, same_block}
 use Rattle.mz_base.specs.Lists.{insert_by}
-use Rattle.mz_history.specs.declared.event.Event.{Event}
-use Rattle.mz_history.specs.declared.event.Event.TheVariants.{Back, Shut}
-use Rattle.mz_history.specs.Places.{Spot, place_of, zone_of}
-use Rattle.mz_history.specs.State.{State, live_blocks, placed_runs}
+use Rattle.mz_events.specs.declared.event.Event.{Event}
+use Rattle.mz_events.specs.declared.event.Event.TheVariants.{Back, Shut}
+use Rattle.mz_events.specs.Places.{Spot, place_of, zone_of}
+use Rattle.mz_events.specs.State.{State, live_blocks, placed_runs}
 
 -- the zone of a spot
 abbrev pub zone_at : Spot → ℕ

@@ -4,11 +4,11 @@ ghost use Rattle.std.specs.Prelude.{◌≡◌, ◌+◌, ◌≤◌, ℕ, true, Li
 ghost use Rattle.std.specs.List.{list_all};
 ghost use Rattle.mz_base.specs.declared.profile.Profile.{Profile};
 ghost use Rattle.mz_base.specs.Space.{Block};
-ghost use Rattle.mz_history.specs.declared.entry.Entry.{Entry as entry};
+ghost use Rattle.mz_events.specs.declared.entry.Entry.{Entry as entry};
 ghost use Rattle.mz_record.specs.Bytes.{Bytes, fresh, cleared, filled, linked, kept_in_place, kept_in_move, is_shown_as};
 ghost use Rattle.mz_record.specs.Served.{Request, IsServed, IsUndisturbed, is_dry, first_made};
 
-use mz_history::laws::holding::{what_an_event_leaves, what_an_event_reads};
+use mz_events::laws::holding::{what_an_event_leaves, what_an_event_reads};
 
 /// As many bytes are known or unknown as the block has.
 pub fn byte_counts()

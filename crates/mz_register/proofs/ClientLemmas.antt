@@ -6,9 +6,9 @@ use Rattle.std.proofs.lemmas.Bool.{and_from, false≢true, eqb-true}
 use Rattle.std.proofs.lemmas.Bool.Decides.{nat_tests}
 use Rattle.mz_base.specs.declared.profile.Profile.{Profile}
 use Rattle.mz_base.specs.Site.{Site}
-use Rattle.mz_history.specs.declared.event.Event.{Event}
-use Rattle.mz_history.specs.State.{Kept}
-use Rattle.mz_history.specs.Standing.{Keeping, Stands}
+use Rattle.mz_events.specs.declared.event.Event.{Event}
+use Rattle.mz_events.specs.State.{Kept}
+use Rattle.mz_events.specs.Standing.{Keeping, Stands}
 use Rattle.mz_register.specs.HistoryLaws.{HistoryLaws}
 use Rattle.mz_register.specs.Keepers.{keeper_count, place_at, keeper_spot, is_among, is_held}
 use Rattle.mz_register.specs.Account.{Account, known, StandsFor, entry_at}

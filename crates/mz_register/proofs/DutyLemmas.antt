@@ -4,16 +4,16 @@ use Rattle.std.specs.Prelude.{◌||◌, ◌⊎◌, nat_lt}
 use Rattle.std.proofs.lemmas.Bool.{cases_Bool, and_parts, false≢true}
 use Rattle.std.proofs.lemmas.Bool.Decides.{nat_tests}
 use Rattle.mz_base.specs.declared.profile.Profile.{Profile}
-use Rattle.mz_history.specs.declared.place.Place.{Place}
-use Rattle.mz_history.specs.declared.place.Place.TheVariants.{Pages, Tiny, TinyDepot, Small, SmallDepot, Large, Nano}
-use Rattle.mz_history.specs.declared.entry.Entry.{Entry}
-use Rattle.mz_history.specs.declared.event.Event.{Event}
-use Rattle.mz_history.specs.declared.event.Event.TheVariants.{Take, Back, Move, New, End, Size, Full, Dry, No, Open, Shut}
-use Rattle.mz_history.specs.Places.{is_magazine, is_nano, depot_of, exists_in, Spot, keeper_at, nano_page, same_spot, spot_of, spot_at}
-use Rattle.mz_history.specs.State.{State, opening, value_at, look_up}
-use Rattle.mz_history.specs.Effect.{touches, after}
-use Rattle.mz_history.specs.Rules.{Fits}
-use Rattle.mz_history.specs.History.{AreLawful, after_entry, after_all}
+use Rattle.mz_events.specs.declared.place.Place.{Place}
+use Rattle.mz_events.specs.declared.place.Place.TheVariants.{Pages, Tiny, TinyDepot, Small, SmallDepot, Large, Nano}
+use Rattle.mz_events.specs.declared.entry.Entry.{Entry}
+use Rattle.mz_events.specs.declared.event.Event.{Event}
+use Rattle.mz_events.specs.declared.event.Event.TheVariants.{Take, Back, Move, New, End, Size, Full, Dry, No, Open, Shut}
+use Rattle.mz_events.specs.Places.{is_magazine, is_nano, depot_of, exists_in, Spot, keeper_at, nano_page, same_spot, spot_of, spot_at}
+use Rattle.mz_events.specs.State.{State, opening, value_at, look_up}
+use Rattle.mz_events.specs.Effect.{touches, after}
+use Rattle.mz_events.specs.Rules.{Fits}
+use Rattle.mz_events.specs.History.{AreLawful, after_entry, after_all}
 use Rattle.mz_register.specs.HistoryLaws.{HistoryLaws}
 use Rattle.mz_register.specs.Keepers.{keeper_count, keeper_of, keeper_spot}
 use Rattle.mz_register.proofs.ListLemmas.{or_elim}

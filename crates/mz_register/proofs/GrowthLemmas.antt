@@ -4,15 +4,15 @@ use Rattle.std.specs.Prelude.{◌&&◌, ◌||◌}
 use Rattle.std.proofs.lemmas.Bool.{and_parts, and_from, false≢true, cases_Bool}
 use Rattle.std.proofs.lemmas.List.Elements.{All-head, All-tail}
 use Rattle.mz_base.specs.declared.profile.Profile.{Profile}
-use Rattle.mz_history.specs.declared.place.Place.{Place}
-use Rattle.mz_history.specs.declared.entry.Entry.{Entry}
-use Rattle.mz_history.specs.declared.event.Event.{Event}
-use Rattle.mz_history.specs.declared.event.Event.TheVariants.{Take, Back, Move, New, End, Size, Full, Dry, No, Open, Shut}
-use Rattle.mz_history.specs.Places.{Spot, keeper_at}
-use Rattle.mz_history.specs.State.{is_open}
-use Rattle.mz_history.specs.Effect.{touches}
-use Rattle.mz_history.specs.Hands.{own}
-use Rattle.mz_history.specs.Holding.{changes_zones, IsAway, AreAway}
+use Rattle.mz_events.specs.declared.place.Place.{Place}
+use Rattle.mz_events.specs.declared.entry.Entry.{Entry}
+use Rattle.mz_events.specs.declared.event.Event.{Event}
+use Rattle.mz_events.specs.declared.event.Event.TheVariants.{Take, Back, Move, New, End, Size, Full, Dry, No, Open, Shut}
+use Rattle.mz_events.specs.Places.{Spot, keeper_at}
+use Rattle.mz_events.specs.State.{is_open}
+use Rattle.mz_events.specs.Effect.{touches}
+use Rattle.mz_events.specs.Hands.{own}
+use Rattle.mz_events.specs.Holding.{changes_zones, IsAway, AreAway}
 use Rattle.mz_register.specs.declared.pair.Pair.{Pair}
 use Rattle.mz_register.specs.HistoryLaws.{HistoryLaws}
 use Rattle.mz_register.specs.Keepers.{is_held, is_among, keeper_of}

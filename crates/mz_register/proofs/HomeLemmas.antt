@@ -5,11 +5,11 @@ use Rattle.std.proofs.lemmas.List.{get_or-set_same, get_or-set_other}
 use Rattle.std.proofs.lemmas.Bool.{false≢true, cases_Bool, eqb-true}
 use Rattle.mz_base.specs.declared.profile.Profile.{Profile}
 use Rattle.mz_base.specs.Site.{Site}
-use Rattle.mz_history.specs.declared.event.Event.{Event}
-use Rattle.mz_history.specs.Places.{Spot}
-use Rattle.mz_history.specs.State.{Value, State, value_at, kept_at, opening, look_up}
-use Rattle.mz_history.specs.Standing.{Keeping, Stands}
-use Rattle.mz_history.specs.History.{AreLawful, after_all}
+use Rattle.mz_events.specs.declared.event.Event.{Event}
+use Rattle.mz_events.specs.Places.{Spot}
+use Rattle.mz_events.specs.State.{Value, State, value_at, kept_at, opening, look_up}
+use Rattle.mz_events.specs.Standing.{Keeping, Stands}
+use Rattle.mz_events.specs.History.{AreLawful, after_all}
 use Rattle.mz_register.specs.Keepers.{keeper_count, place_at, keeper_spot, is_among}
 use Rattle.mz_register.specs.Calls.{without}
 use Rattle.mz_register.specs.Rule.{IsThere, AreHome, AreInOneHand}

@@ -9,20 +9,20 @@ use Rattle.mz_base.specs.declared.profile.Profile.{Profile}
 use Rattle.mz_base.specs.Space.{Block, Run, block_at, run_at, block_end, run_end, blocks_apart, runs_apart, bytes_of, same_block, same_run}
 use Rattle.mz_base.specs.Lists.{has_run, has_block, add_run, drop_block, insert_by, blocks_in}
 use Rattle.mz_base.specs.Room.{lies_in}
-use Rattle.mz_history.specs.declared.place.Place.{Place}
-use Rattle.mz_history.specs.declared.place.Place.TheVariants.{Pages, Tiny, TinyDepot, Small, SmallDepot, Large, Nano}
-use Rattle.mz_history.specs.declared.entry.Entry.{Entry}
-use Rattle.mz_history.specs.declared.event.Event.{Event}
-use Rattle.mz_history.specs.declared.event.Event.TheVariants.{Take, Back, Move, New, End, Size, Full, Dry, No, Open, Shut}
-use Rattle.mz_history.specs.Places.{is_magazine, is_nano, depot_of, is_length_of, Spot, same_spot, spot_of, spot_at, place_of}
-use Rattle.mz_history.specs.State.{State, opening, kept_at, live_blocks}
-use Rattle.mz_history.specs.Changes.{region_at}
-use Rattle.mz_history.specs.Effect.{touches, kept_after, after}
-use Rattle.mz_history.specs.Rules.{Fits}
-use Rattle.mz_history.specs.History.{AreLawful, after_all}
-use Rattle.mz_history.specs.Sameness.{IsOnce}
-use Rattle.mz_history.specs.Separation.{IsSeparate, IsAscending, LiesAtHome}
-use Rattle.mz_history.specs.Bounds.{RunsFit}
+use Rattle.mz_events.specs.declared.place.Place.{Place}
+use Rattle.mz_events.specs.declared.place.Place.TheVariants.{Pages, Tiny, TinyDepot, Small, SmallDepot, Large, Nano}
+use Rattle.mz_events.specs.declared.entry.Entry.{Entry}
+use Rattle.mz_events.specs.declared.event.Event.{Event}
+use Rattle.mz_events.specs.declared.event.Event.TheVariants.{Take, Back, Move, New, End, Size, Full, Dry, No, Open, Shut}
+use Rattle.mz_events.specs.Places.{is_magazine, is_nano, depot_of, is_length_of, Spot, same_spot, spot_of, spot_at, place_of}
+use Rattle.mz_events.specs.State.{State, opening, kept_at, live_blocks}
+use Rattle.mz_events.specs.Changes.{region_at}
+use Rattle.mz_events.specs.Effect.{touches, kept_after, after}
+use Rattle.mz_events.specs.Rules.{Fits}
+use Rattle.mz_events.specs.History.{AreLawful, after_all}
+use Rattle.mz_events.specs.Sameness.{IsOnce}
+use Rattle.mz_events.specs.Separation.{IsSeparate, IsAscending, LiesAtHome}
+use Rattle.mz_events.specs.Bounds.{RunsFit}
 use Rattle.mz_register.specs.Account.{is_live, entry_at}
 use Rattle.mz_register.specs.Living.{lives_after}
 use Rattle.mz_register.specs.HistoryLaws.{HistoryLaws}

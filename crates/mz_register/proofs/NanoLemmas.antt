@@ -8,19 +8,19 @@ use Rattle.mz_base.specs.declared.range.TheConstants.{PAGE}
 use Rattle.mz_base.specs.declared.profile.Profile.{Profile}
 use Rattle.mz_base.specs.Space.{Block, block_at, blocks_apart, same_block, page_of}
 use Rattle.mz_base.specs.Lists.{has_block, drop_block, add_block}
-use Rattle.mz_history.specs.declared.place.Place.{Place}
-use Rattle.mz_history.specs.declared.place.Place.TheVariants.{Pages, Tiny, TinyDepot, Small, SmallDepot, Large, Nano}
-use Rattle.mz_history.specs.declared.entry.Entry.{Entry}
-use Rattle.mz_history.specs.declared.event.Event.{Event}
-use Rattle.mz_history.specs.declared.event.Event.TheVariants.{Take, Back, Move, New, End, Size, Full, Dry, No, Open, Shut}
-use Rattle.mz_history.specs.Places.{is_nano, zone_of, nano_page, nano_start, same_spot, spot_of, spot_at}
-use Rattle.mz_history.specs.State.{State, opening, kept_at, is_open}
-use Rattle.mz_history.specs.Changes.{one_for}
-use Rattle.mz_history.specs.Effect.{touches, after}
-use Rattle.mz_history.specs.Rules.{Fits}
-use Rattle.mz_history.specs.History.{AreLawful, after_all}
-use Rattle.mz_history.specs.Hands.{hand_after}
-use Rattle.mz_history.specs.Holding.{ReadsHeld}
+use Rattle.mz_events.specs.declared.place.Place.{Place}
+use Rattle.mz_events.specs.declared.place.Place.TheVariants.{Pages, Tiny, TinyDepot, Small, SmallDepot, Large, Nano}
+use Rattle.mz_events.specs.declared.entry.Entry.{Entry}
+use Rattle.mz_events.specs.declared.event.Event.{Event}
+use Rattle.mz_events.specs.declared.event.Event.TheVariants.{Take, Back, Move, New, End, Size, Full, Dry, No, Open, Shut}
+use Rattle.mz_events.specs.Places.{is_nano, zone_of, nano_page, nano_start, same_spot, spot_of, spot_at}
+use Rattle.mz_events.specs.State.{State, opening, kept_at, is_open}
+use Rattle.mz_events.specs.Changes.{one_for}
+use Rattle.mz_events.specs.Effect.{touches, after}
+use Rattle.mz_events.specs.Rules.{Fits}
+use Rattle.mz_events.specs.History.{AreLawful, after_all}
+use Rattle.mz_events.specs.Hands.{hand_after}
+use Rattle.mz_events.specs.Holding.{ReadsHeld}
 use Rattle.mz_register.specs.declared.pair.Pair.{Pair}
 use Rattle.mz_register.specs.HistoryLaws.{HistoryLaws}
 use Rattle.mz_register.specs.Keepers.{is_held}
@@ -79,10 +79,10 @@ module _ (L : HistoryLaws) (p : Profile) (es : List Entry) (ok : AreLawful p ope
   abbrev st : State
   st = after_all p opening es
 
-  sep : Rattle.mz_history.specs.Separation.IsSeparate p st
+  sep : Rattle.mz_events.specs.Separation.IsSeparate p st
   sep = L.separate p es ok
 
-  asc : Rattle.mz_history.specs.Separation.IsAscending p st
+  asc : Rattle.mz_events.specs.Separation.IsAscending p st
   asc = L.ascending p es ok
 
   -- a block in a hand, in one of nano's pages, is live there

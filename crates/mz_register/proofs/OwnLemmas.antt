@@ -1,7 +1,7 @@
 -- A caller's own entries.
 use Rattle.std.proofs.Common.{◌≡◌, ℕ, ◌==◌, Bool, true, false, cond, List, [], ◌∷◌, ◌++◌, refl, ap, ◌∙◌, eq-eqb}
-use Rattle.mz_history.specs.declared.entry.Entry.{Entry}
-use Rattle.mz_history.specs.Hands.{own}
+use Rattle.mz_events.specs.declared.entry.Entry.{Entry}
+use Rattle.mz_events.specs.Hands.{own}
 
 own_case : (c : ℕ) (x : Entry) (xs ys zs : List Entry) (d : Bool) → own c zs ≡ own c xs ++ ys → cond d (x ∷ own c zs) (own c zs) ≡ cond d (x ∷ own c xs) (own c xs) ++ ys
 own_case c x xs ys zs true h = ap (λ es. x ∷ es) h

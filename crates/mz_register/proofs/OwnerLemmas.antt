@@ -4,8 +4,8 @@ use Rattle.std.specs.Prelude.{◌&&◌, ◌||◌, map, filter}
 use Rattle.std.proofs.lemmas.Bool.{cases_Bool, eqb-true, and_parts, and_from, false≢true}
 use Rattle.mz_base.specs.Space.{Block, block_at, same_block}
 use Rattle.mz_base.specs.Lists.{has_block}
-use Rattle.mz_history.specs.State.{State}
-use Rattle.mz_history.specs.Changes.{one_for}
+use Rattle.mz_events.specs.State.{State}
+use Rattle.mz_events.specs.Changes.{one_for}
 use Rattle.mz_register.specs.declared.pair.Pair.{Pair}
 use Rattle.mz_register.specs.Pairs.{pair_at, block_of, hand_in, is_pair, owners, resized_pair, is_from, given}
 use Rattle.mz_register.specs.Account.{is_live}

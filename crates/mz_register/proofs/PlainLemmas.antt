@@ -8,16 +8,16 @@ use Rattle.mz_base.specs.declared.profile.Profile.{Profile}
 use Rattle.mz_base.specs.Limits.{IsWithinLimits}
 use Rattle.mz_base.specs.Site.{Site}
 use Rattle.mz_base.specs.Space.{Block, block_at, page_of}
-use Rattle.mz_history.specs.declared.place.Place.{Place}
-use Rattle.mz_history.specs.declared.place.Place.TheVariants.{Pages, Tiny, TinyDepot, Small, SmallDepot, Large, Nano}
-use Rattle.mz_history.specs.declared.entry.Entry.{Entry}
-use Rattle.mz_history.specs.declared.event.Event.{Event}
-use Rattle.mz_history.specs.declared.event.Event.TheVariants.{Take, Back, Move, New, End, Size, Full, Dry, No, Open, Shut}
-use Rattle.mz_history.specs.Places.{is_nano, Spot, nano_page, same_spot, spot_of}
-use Rattle.mz_history.specs.State.{State, opening, value_at, is_open}
-use Rattle.mz_history.specs.Effect.{touches, value_after, after}
-use Rattle.mz_history.specs.Rules.{Fits}
-use Rattle.mz_history.specs.History.{AreLawful, after_all}
+use Rattle.mz_events.specs.declared.place.Place.{Place}
+use Rattle.mz_events.specs.declared.place.Place.TheVariants.{Pages, Tiny, TinyDepot, Small, SmallDepot, Large, Nano}
+use Rattle.mz_events.specs.declared.entry.Entry.{Entry}
+use Rattle.mz_events.specs.declared.event.Event.{Event}
+use Rattle.mz_events.specs.declared.event.Event.TheVariants.{Take, Back, Move, New, End, Size, Full, Dry, No, Open, Shut}
+use Rattle.mz_events.specs.Places.{is_nano, Spot, nano_page, same_spot, spot_of}
+use Rattle.mz_events.specs.State.{State, opening, value_at, is_open}
+use Rattle.mz_events.specs.Effect.{touches, value_after, after}
+use Rattle.mz_events.specs.Rules.{Fits}
+use Rattle.mz_events.specs.History.{AreLawful, after_all}
 use Rattle.mz_register.specs.declared.light.Asked.{Asked}
 use Rattle.mz_register.specs.declared.pair.Pair.{Pair}
 use Rattle.mz_register.specs.HistoryLaws.{HistoryLaws}

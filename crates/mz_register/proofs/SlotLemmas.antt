@@ -10,9 +10,9 @@ use Rattle.mz_base.specs.declared.profile.Profile.{Profile}
 use Rattle.mz_base.specs.Space.{Block, block_at, block_end, blocks_apart, same_block, page_of, run_at, run_end}
 use Rattle.mz_base.specs.Lists.{has_block, drop_block, add_block, insert_by}
 use Rattle.mz_base.specs.Room.{lies_in}
-use Rattle.mz_history.specs.Places.{Spot, keeper_at, nano_page, nano_start}
-use Rattle.mz_history.specs.State.{State}
-use Rattle.mz_history.specs.Separation.{IsSeparate, LiesAtHome}
+use Rattle.mz_events.specs.Places.{Spot, keeper_at, nano_page, nano_start}
+use Rattle.mz_events.specs.State.{State}
+use Rattle.mz_events.specs.Separation.{IsSeparate, LiesAtHome}
 use Rattle.mz_register.specs.Lights.{page_of_block, slot_address, slot_number}
 use Rattle.mz_register.proofs.OwnerLemmas.{same_true, same_refl}
 use Rattle.mz_register.proofs.ListLemmas.{or_elim, or_left, or_right}

@@ -4,18 +4,18 @@ use Rattle.std.specs.Prelude.{map, ◌||◌, slice_get}
 use Rattle.std.proofs.lemmas.Bool.{false≢true, eqb-true}
 use Rattle.mz_base.specs.declared.profile.Profile.{Profile}
 use Rattle.mz_base.specs.Limits.{IsWithinLimits}
-use Rattle.mz_history.specs.declared.place.Place.{Place}
-use Rattle.mz_history.specs.declared.place.Place.TheVariants.{Tiny, TinyDepot}
-use Rattle.mz_history.specs.declared.entry.Entry.{Entry}
-use Rattle.mz_history.specs.declared.event.Event.{Event}
-use Rattle.mz_history.specs.declared.event.Event.TheVariants.{Full}
-use Rattle.mz_history.specs.Places.{Spot, keeper_at, same_spot, spot_of}
-use Rattle.mz_history.specs.State.{State, opening, value_at, nothing_kept, look_up, write}
-use Rattle.mz_history.specs.Effect.{after, write_all}
-use Rattle.mz_history.specs.Rules.{Fits}
-use Rattle.mz_history.specs.History.{after_all}
-use Rattle.mz_history.specs.Holding.{ReadsHeld}
-use Rattle.mz_history.specs.Standing.{Keeping, Stands}
+use Rattle.mz_events.specs.declared.place.Place.{Place}
+use Rattle.mz_events.specs.declared.place.Place.TheVariants.{Tiny, TinyDepot}
+use Rattle.mz_events.specs.declared.entry.Entry.{Entry}
+use Rattle.mz_events.specs.declared.event.Event.{Event}
+use Rattle.mz_events.specs.declared.event.Event.TheVariants.{Full}
+use Rattle.mz_events.specs.Places.{Spot, keeper_at, same_spot, spot_of}
+use Rattle.mz_events.specs.State.{State, opening, value_at, nothing_kept, look_up, write}
+use Rattle.mz_events.specs.Effect.{after, write_all}
+use Rattle.mz_events.specs.Rules.{Fits}
+use Rattle.mz_events.specs.History.{after_all}
+use Rattle.mz_events.specs.Holding.{ReadsHeld}
+use Rattle.mz_events.specs.Standing.{Keeping, Stands}
 use Rattle.mz_register.specs.HistoryLaws.{HistoryLaws}
 use Rattle.mz_register.specs.Keepers.{keeper_count, keeper_spot, place_at, is_among, is_held}
 use Rattle.mz_register.specs.Account.{Account, state_of, known, holds_spot, entry_at}

@@ -10,11 +10,11 @@ use Rattle.mz_base.specs.declared.range.TheConstants.{PAGE}
 use Rattle.mz_base.specs.declared.profile.Profile.{Profile}
 use Rattle.mz_base.specs.Space.{Block, page_of}
 use Rattle.mz_base.specs.Lists.{has_block}
-use Rattle.mz_history.specs.declared.entry.Entry.{Entry}
-use Rattle.mz_history.specs.Places.{nano_page, nano_start}
-use Rattle.mz_history.specs.State.{State, opening, kept_at}
-use Rattle.mz_history.specs.Changes.{one_for}
-use Rattle.mz_history.specs.History.{AreLawful, after_all}
+use Rattle.mz_events.specs.declared.entry.Entry.{Entry}
+use Rattle.mz_events.specs.Places.{nano_page, nano_start}
+use Rattle.mz_events.specs.State.{State, opening, kept_at}
+use Rattle.mz_events.specs.Changes.{one_for}
+use Rattle.mz_events.specs.History.{AreLawful, after_all}
 use Rattle.mz_register.specs.declared.pair.Pair.{Pair}
 use Rattle.mz_register.specs.HistoryLaws.{HistoryLaws}
 use Rattle.mz_register.specs.Pairs.{hand_in}
@@ -63,7 +63,7 @@ all_set_case test (x ∷ xs) (suc i) v t h = let u = and_parts (test x) (list_al
 pub classes_set : (classes : List ℕ) (b class : ℕ) → class ≤ 16 → list_all (λ d. nat_le d 16) classes ≡ true → list_all (λ d. nat_le d 16) (set classes b class) ≡ true
 classes_set classes b class l h = let t : nat_le class 16 ≡ true = grind (arith, nat_tests) in all_set_case (λ d. nat_le d 16) classes b class t h
 
-pub same_class : (p : Profile) (s : State) (classes : List ℕ) (b class : ℕ) → length classes ≡ p.nano → ((j : Rattle.mz_history.specs.Places.Spot) (x : Block) → has_block (kept_at s j).live x ≡ true → 1 ≤ x.size) → (get_or classes b 0 ≡ 0) ⊎ (get_or classes b 0 ≡ class) → AreOfClass p s classes → AreOfClass p s (set classes b class)
+pub same_class : (p : Profile) (s : State) (classes : List ℕ) (b class : ℕ) → length classes ≡ p.nano → ((j : Rattle.mz_events.specs.Places.Spot) (x : Block) → has_block (kept_at s j).live x ≡ true → 1 ≤ x.size) → (get_or classes b 0 ≡ 0) ⊎ (get_or classes b 0 ≡ class) → AreOfClass p s classes → AreOfClass p s (set classes b class)
 same_class p s classes b class len some was of i x li h = elim (cases_Bool (i == b)) [
   | inl y ↦
       let e : i ≡ b = eqb-true i b y in
@@ -83,7 +83,7 @@ zero_at zero i = refl
 zero_at (suc n) zero = refl
 zero_at (suc n) (suc i) = zero_at n i
 
-pub no_words : (p : Profile) (s : State) (c : ℕ) (pairs : List Pair) (n : ℕ) → ((j : Rattle.mz_history.specs.Places.Spot) → (kept_at s j).live ≡ []) → AreWords p s c pairs (replicate n 0)
+pub no_words : (p : Profile) (s : State) (c : ℕ) (pairs : List Pair) (n : ℕ) → ((j : Rattle.mz_events.specs.Places.Spot) → (kept_at s j).live ≡ []) → AreWords p s c pairs (replicate n 0)
 no_words p s c pairs n none b j lb lj =
     let idle : is_slot_live p s b j ≡ false = ap (λ bs. has_slot p bs b j) (none (nano_page (page_of_block p b))) in
     let zeros : List ℕ = replicate n 0 in
@@ -188,5 +188,5 @@ word_told p s c pairs ws b j words lb lj =
     let w = get_or ws (b * 1024 + j) 0 in
     told_case c w (is_slot_live p s b j) (has_slot p (hand_in c pairs) b j) (nat_lt w 2) refl (words b j lb lj) ∙ ap (λ d. cond d (2 + c) (one_for (is_slot_live p s b j))) (sym (light_of_slot b j ws lj))
 
-pub no_class : (p : Profile) (s : State) (classes : List ℕ) → ((j : Rattle.mz_history.specs.Places.Spot) → (kept_at s j).live ≡ []) → AreOfClass p s classes
+pub no_class : (p : Profile) (s : State) (classes : List ℕ) → ((j : Rattle.mz_events.specs.Places.Spot) → (kept_at s j).live ≡ []) → AreOfClass p s classes
 no_class p s classes none b x lb h = absurd (false≢true (sym (ap (λ bs. has_block bs x) (none (nano_page (page_of_block p b)))) ∙ h))

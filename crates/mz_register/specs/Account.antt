@@ -5,14 +5,14 @@ use Rattle.mz_base.specs.declared.profile.Profile.{Profile}
 use Rattle.mz_base.specs.Limits.{IsWithinLimits}
 use Rattle.mz_base.specs.Site.{Site}
 use Rattle.mz_base.specs.Space.{Block, same_block}
-use Rattle.mz_history.specs.declared.entry.Entry.{Entry}
-use Rattle.mz_history.specs.declared.event.Event.{Event}
-use Rattle.mz_history.specs.Places.{Spot}
-use Rattle.mz_history.specs.State.{Value, State, value_at, opening, live_blocks}
-use Rattle.mz_history.specs.History.{AreLawful, after_all}
-use Rattle.mz_history.specs.Hands.{own}
-use Rattle.mz_history.specs.Changes.{one_for}
-use Rattle.mz_history.specs.Standing.{Keeping, Stands}
+use Rattle.mz_events.specs.declared.entry.Entry.{Entry}
+use Rattle.mz_events.specs.declared.event.Event.{Event}
+use Rattle.mz_events.specs.Places.{Spot}
+use Rattle.mz_events.specs.State.{Value, State, value_at, opening, live_blocks}
+use Rattle.mz_events.specs.History.{AreLawful, after_all}
+use Rattle.mz_events.specs.Hands.{own}
+use Rattle.mz_events.specs.Changes.{one_for}
+use Rattle.mz_events.specs.Standing.{Keeping, Stands}
 use Rattle.mz_register.specs.declared.light.Light.{Light}
 use Rattle.mz_register.specs.declared.light.Asked.{Asked}
 use Rattle.mz_register.specs.declared.pair.Pair.{Pair}

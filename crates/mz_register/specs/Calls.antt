@@ -3,15 +3,15 @@ use Rattle.std.specs.Prelude.{◌≡◌, ◌≢◌, ◌⊎◌, ℕ, ◌-◌, ◌
 use Rattle.std.specs.List.{list_all}
 use Rattle.mz_base.specs.Space.{block_at, page_of}
 use Rattle.mz_base.specs.Lists.{has_block}
-use Rattle.mz_history.specs.declared.entry.Entry.{Entry}
-use Rattle.mz_history.specs.declared.event.Event.{Event}
-use Rattle.mz_history.specs.declared.event.Event.TheVariants.{Take, Back, Move, New, End, Size, Full, Dry, No, Open, Shut}
-use Rattle.mz_history.specs.declared.place.Place.TheVariants.{Nano}
-use Rattle.mz_history.specs.Places.{is_nano, zone_of, nano_start, Spot}
-use Rattle.mz_history.specs.State.{is_open}
-use Rattle.mz_history.specs.Effect.{touches, value_after}
-use Rattle.mz_history.specs.Rules.{Fits}
-use Rattle.mz_history.specs.Holding.{changes_zones, ReadsHeld, AreAway}
+use Rattle.mz_events.specs.declared.entry.Entry.{Entry}
+use Rattle.mz_events.specs.declared.event.Event.{Event}
+use Rattle.mz_events.specs.declared.event.Event.TheVariants.{Take, Back, Move, New, End, Size, Full, Dry, No, Open, Shut}
+use Rattle.mz_events.specs.declared.place.Place.TheVariants.{Nano}
+use Rattle.mz_events.specs.Places.{is_nano, zone_of, nano_start, Spot}
+use Rattle.mz_events.specs.State.{is_open}
+use Rattle.mz_events.specs.Effect.{touches, value_after}
+use Rattle.mz_events.specs.Rules.{Fits}
+use Rattle.mz_events.specs.Holding.{changes_zones, ReadsHeld, AreAway}
 use Rattle.mz_register.specs.declared.light.Light.{Light}
 use Rattle.mz_register.specs.declared.light.Found.{Found}
 use Rattle.mz_register.specs.declared.light.Asked.TheVariants.{Settle, HoldLight}

@@ -1,8 +1,8 @@
 -- What a client of any book asks, which notes two events while it holds two keepers: that it may, and that the keepers still
 -- stand for their places then.
 use Rattle.std.specs.Prelude.{◌≡◌, ℕ, ◌<◌, false, [], ◌∷◌, None, IsTrue}
-use Rattle.mz_history.specs.declared.event.Event.{Event}
-use Rattle.mz_history.specs.Holding.{changes_zones}
+use Rattle.mz_events.specs.declared.event.Event.{Event}
+use Rattle.mz_events.specs.Holding.{changes_zones}
 use Rattle.mz_register.specs.Keepers.{keeper_count, keeper_spot, is_among}
 use Rattle.mz_register.specs.Account.{Account, known}
 use Rattle.mz_register.specs.Calls.{CanNote, Notes}

@@ -1,12 +1,12 @@
 -- What several calls of a book add up to. This project's own.
 use Rattle.std.specs.Prelude.{◌≡◌, ℕ, ◌+◌, ◌-◌, ◌≤◌, ◌==◌, Bool, true, ◌&&◌, ◌||◌, not, List, [], ◌∷◌, ◌++◌, length, IsTrue}
 use Rattle.mz_base.specs.declared.profile.Profile.{Profile}
-use Rattle.mz_history.specs.declared.place.Place.{Place}
-use Rattle.mz_history.specs.declared.entry.Entry.{Entry}
-use Rattle.mz_history.specs.Places.{Spot, keeper_at}
-use Rattle.mz_history.specs.State.{is_open}
-use Rattle.mz_history.specs.Effect.{touches}
-use Rattle.mz_history.specs.Hands.{own}
+use Rattle.mz_events.specs.declared.place.Place.{Place}
+use Rattle.mz_events.specs.declared.entry.Entry.{Entry}
+use Rattle.mz_events.specs.Places.{Spot, keeper_at}
+use Rattle.mz_events.specs.State.{is_open}
+use Rattle.mz_events.specs.Effect.{touches}
+use Rattle.mz_events.specs.Hands.{own}
 use Rattle.mz_register.specs.declared.pair.Pair.{Pair}
 use Rattle.mz_register.specs.Keepers.{is_held}
 use Rattle.mz_register.specs.Pairs.{pairs_after}

@@ -3,20 +3,20 @@ use Rattle.std.specs.Prelude.{◌≡◌, ℕ, ◌+◌, ◌==◌, Bool, true, fal
 use Rattle.mz_base.specs.declared.profile.Profile.{Profile}
 use Rattle.mz_base.specs.Space.{Block}
 use Rattle.mz_base.specs.Lists.{has_block}
-use Rattle.mz_history.specs.declared.entry.Entry.{Entry}
-use Rattle.mz_history.specs.declared.event.Event.{Event}
-use Rattle.mz_history.specs.declared.event.Event.TheVariants.{Open, Shut}
-use Rattle.mz_history.specs.Places.{Spot, same_spot}
-use Rattle.mz_history.specs.State.{State, opening, value_at, kept_at, is_open}
-use Rattle.mz_history.specs.Effect.{touches, value_after, after}
-use Rattle.mz_history.specs.History.{IsLawful, AreLawful, after_entry, after_all, owes_nothing, IsLawfulHistory}
-use Rattle.mz_history.specs.Locality.{reads}
-use Rattle.mz_history.specs.Sameness.{IsOnce, IsBySpot}
-use Rattle.mz_history.specs.Separation.{IsSeparate, IsAscending}
-use Rattle.mz_history.specs.Bounds.{RunsFit}
-use Rattle.mz_history.specs.Forms.{HasForm}
-use Rattle.mz_history.specs.Fitting.{FitsByEvent}
-use Rattle.mz_history.specs.Holding.{changes_zones, AreAway, IsKnownThrough}
+use Rattle.mz_events.specs.declared.entry.Entry.{Entry}
+use Rattle.mz_events.specs.declared.event.Event.{Event}
+use Rattle.mz_events.specs.declared.event.Event.TheVariants.{Open, Shut}
+use Rattle.mz_events.specs.Places.{Spot, same_spot}
+use Rattle.mz_events.specs.State.{State, opening, value_at, kept_at, is_open}
+use Rattle.mz_events.specs.Effect.{touches, value_after, after}
+use Rattle.mz_events.specs.History.{IsLawful, AreLawful, after_entry, after_all, owes_nothing, IsLawfulHistory}
+use Rattle.mz_events.specs.Locality.{reads}
+use Rattle.mz_events.specs.Sameness.{IsOnce, IsBySpot}
+use Rattle.mz_events.specs.Separation.{IsSeparate, IsAscending}
+use Rattle.mz_events.specs.Bounds.{RunsFit}
+use Rattle.mz_events.specs.Forms.{HasForm}
+use Rattle.mz_events.specs.Fitting.{FitsByEvent}
+use Rattle.mz_events.specs.Holding.{changes_zones, AreAway, IsKnownThrough}
 
 pub record HistoryLaws : Type 0 where
   pub touched : (p : Profile) (s : State) (c : ℕ) (e : Event) (j : Spot) → touches p e j ≡ true → value_at (after p s c e) j ≡ value_after s c e j

@@ -2,9 +2,9 @@
 use Rattle.std.specs.Prelude.{ℕ, ◌+◌, ◌-◌, ◌*◌, ◌/◌, ◌%◌, ◌==◌, Bool, false, nat_lt, List, if◌then◌else◌}
 use Rattle.std.specs.List.{list_any}
 use Rattle.mz_base.specs.declared.profile.Profile.{Profile}
-use Rattle.mz_history.specs.declared.place.Place.{Place}
-use Rattle.mz_history.specs.declared.place.Place.TheVariants.{Pages, Tiny, TinyDepot, Small, SmallDepot, Large, Nano}
-use Rattle.mz_history.specs.Places.{Spot, keeper_at, nano_page, spot_of}
+use Rattle.mz_events.specs.declared.place.Place.{Place}
+use Rattle.mz_events.specs.declared.place.Place.TheVariants.{Pages, Tiny, TinyDepot, Small, SmallDepot, Large, Nano}
+use Rattle.mz_events.specs.Places.{Spot, keeper_at, nano_page, spot_of}
 
 -- the keepers of one zone: the magazines and the depot of either range, and large
 abbrev pub zone_keepers : Profile → ℕ

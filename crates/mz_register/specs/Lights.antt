@@ -6,8 +6,8 @@ use Rattle.mz_base.specs.declared.range.TheConstants.{PAGE}
 use Rattle.mz_base.specs.declared.profile.Profile.{Profile}
 use Rattle.mz_base.specs.Space.{Block, page_of}
 use Rattle.mz_base.specs.Lists.{insert_by}
-use Rattle.mz_history.specs.Places.{nano_page, nano_start}
-use Rattle.mz_history.specs.State.{State, kept_at}
+use Rattle.mz_events.specs.Places.{nano_page, nano_start}
+use Rattle.mz_events.specs.State.{State, kept_at}
 use Rattle.mz_register.specs.declared.light.Light.{Light}
 
 -- the bytes of a slot of this class

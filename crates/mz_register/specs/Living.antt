@@ -1,8 +1,8 @@
 -- What is live after an event, by what was live before. This project's own.
 use Rattle.std.specs.Prelude.{Bool, ◌&&◌, ◌||◌, not}
 use Rattle.mz_base.specs.Space.{Block, block_at, same_block}
-use Rattle.mz_history.specs.declared.event.Event.{Event}
-use Rattle.mz_history.specs.declared.event.Event.TheVariants.{Take, Back, Move, New, End, Size, Full, Dry, No, Open, Shut}
+use Rattle.mz_events.specs.declared.event.Event.{Event}
+use Rattle.mz_events.specs.declared.event.Event.TheVariants.{Take, Back, Move, New, End, Size, Full, Dry, No, Open, Shut}
 
 -- whether the block is live after the event, where this says whether it was before
 abbrev pub lives_after : Event → Block → Bool → Bool

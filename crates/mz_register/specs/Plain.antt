@@ -4,10 +4,10 @@ use Rattle.std.specs.List.{list_any}
 use Rattle.std.proofs.Common.{arith}
 use Rattle.mz_base.specs.declared.profile.Profile.{Profile}
 use Rattle.mz_base.specs.Site.{Site}
-use Rattle.mz_history.specs.declared.entry.Entry.{Entry}
-use Rattle.mz_history.specs.State.{nothing_kept}
-use Rattle.mz_history.specs.Hands.{own}
-use Rattle.mz_history.specs.Standing.{Keeping, Stands, of_regions, of_large, of_pages, of_nothing}
+use Rattle.mz_events.specs.declared.entry.Entry.{Entry}
+use Rattle.mz_events.specs.State.{nothing_kept}
+use Rattle.mz_events.specs.Hands.{own}
+use Rattle.mz_events.specs.Standing.{Keeping, Stands, of_regions, of_large, of_pages, of_nothing}
 use Rattle.mz_register.specs.declared.light.Asked.{Asked}
 use Rattle.mz_register.specs.declared.pair.Pair.{Pair}
 use Rattle.mz_register.specs.Keepers.{keeper_count, place_at}

@@ -6,10 +6,10 @@ use Rattle.mz_base.specs.declared.profile.Profile.{Profile}
 use Rattle.mz_base.specs.Site.{Site}
 use Rattle.mz_base.specs.Space.{Block}
 use Rattle.mz_base.specs.Lists.{has_block}
-use Rattle.mz_history.specs.Places.{nano_page}
-use Rattle.mz_history.specs.State.{State, value_at, kept_at}
-use Rattle.mz_history.specs.Changes.{one_for}
-use Rattle.mz_history.specs.Standing.{Keeping, Stands, stands_once}
+use Rattle.mz_events.specs.Places.{nano_page}
+use Rattle.mz_events.specs.State.{State, value_at, kept_at}
+use Rattle.mz_events.specs.Changes.{one_for}
+use Rattle.mz_events.specs.Standing.{Keeping, Stands, stands_once}
 use Rattle.mz_register.specs.declared.pair.Pair.{Pair}
 use Rattle.mz_register.specs.Keepers.{keeper_count, place_at, keeper_spot, is_among}
 use Rattle.mz_register.specs.Pairs.{hand_in, owners}

@@ -2,8 +2,8 @@
 use Rattle.std.specs.Prelude.{ℕ, ◌==◌, true, false, [], ◌∷◌, None, if◌then◌else◌}
 use Rattle.mz_base.specs.declared.profile.Profile.{Profile}
 use Rattle.mz_base.specs.Site.{Site}
-use Rattle.mz_history.specs.State.{nothing_kept}
-use Rattle.mz_history.specs.Standing.{Keeping, of_regions, of_large, of_pages}
+use Rattle.mz_events.specs.State.{nothing_kept}
+use Rattle.mz_events.specs.Standing.{Keeping, of_regions, of_large, of_pages}
 
 -- two pages of nano behind two others; two callers; zone 0 alone, with one magazine of each range
 abbrev pub toy_profile : Profile

@@ -4,7 +4,7 @@ ghost use Rattle.mz_register.specs.Account.{Account, StandsFor, IsOrderly};
 ghost use Rattle.mz_register.specs.Calls.{CanHold, Holds, CanNote, Notes, CanRelease, Releases, CanSettle, Settles, CanHoldLight, HoldsLight, CanReleaseLight, ReleasesLight};
 
 use crate::light::{Found, Light};
-use mz_history::{Event, Keep};
+use mz_events::{Event, Keep};
 use std::sync::Wait;
 
 /// One caller's access to keepers and history. Contracts see of it one plain record, its account

@@ -5,7 +5,7 @@ ghost use Rattle.mz_base.specs.Space.{block_at};
 ghost use Rattle.mz_register.specs.Calls.{without};
 ghost use Rattle.mz_register.specs.Pairs.{pairs_after, is_pair as pair_test, resized_pair, given};
 
-use mz_history::Event;
+use mz_events::Event;
 
 /// A live block, by its first address and its size in bytes, and the caller who owns it.
 #[derive(Clone, Copy, Debug, PartialEq, Eq)]

@@ -5,7 +5,7 @@ ghost use Rattle.mz_register.specs.Plain.{opening_account};
 use crate::laws::client::note_both;
 use crate::laws::of_histories;
 use crate::{Book, PlainBook};
-use mz_history::{Entry, Event, Place};
+use mz_events::{Entry, Event, Place};
 use std::alloc::{AllocError, Global};
 use std::test::Fail;
 use toy::{Toy, profile, toys};

@@ -5,16 +5,16 @@ use Rattle.std.specs.List.{list_all}
 use Rattle.std.proofs.lemmas.Bool.{eq-eqb, le-leb, lt-leb}
 use Rattle.mz_base.specs.declared.range.TheConstants.{PAGE}
 use Rattle.mz_base.specs.Space.{Block, block_end, blocks_apart}
-use Rattle.mz_history.specs.declared.event.Event.{Event}
-use Rattle.mz_history.specs.declared.event.Event.TheVariants.{Take, New, End, Full, Dry}
-use Rattle.mz_history.specs.Places.{Spot}
-use Rattle.mz_history.specs.State.{Kept, Deed, Value, State, nothing_kept, look_up, write, live_size}
+use Rattle.mz_events.specs.declared.event.Event.{Event}
+use Rattle.mz_events.specs.declared.event.Event.TheVariants.{Take, New, End, Full, Dry}
+use Rattle.mz_events.specs.Places.{Spot}
+use Rattle.mz_events.specs.State.{Kept, Deed, Value, State, nothing_kept, look_up, write, live_size}
 use Rattle.mz_base.specs.Lists.{insert_by, has_block, add_block, drop_block}
 use Rattle.mz_base.specs.Room.{any_has_room, has_free}
-use Rattle.mz_history.specs.Rules.{Fits, keeps, in_turn, duty_first, existing, takes_lowest, takes_claimed, backs_unused, backs_allowed, moves_in_by_duty, moves_out_claimed, fits_apart, placed, live_there, no_room, zone_changes, is_placed_in_magazine}
-use Rattle.mz_history.specs.Duties.{is_in_excess}
-use Rattle.mz_history.specs.Effect.{write_all, after}
-use Rattle.mz_history.specs.Changes.{still_freed}
+use Rattle.mz_events.specs.Rules.{Fits, keeps, in_turn, duty_first, existing, takes_lowest, takes_claimed, backs_unused, backs_allowed, moves_in_by_duty, moves_out_claimed, fits_apart, placed, live_there, no_room, zone_changes, is_placed_in_magazine}
+use Rattle.mz_events.specs.Duties.{is_in_excess}
+use Rattle.mz_events.specs.Effect.{write_all, after}
+use Rattle.mz_events.specs.Changes.{still_freed}
 use Rattle.mz_run.specs.Blocks.{region_end, IsQuanta}
 use Rattle.mz_run.specs.Session.{the_magazine, the_depot, bytes_in}
 use Rattle.mz_run.proofs.Standing.{space_of, region_kept, rest_kept, at_magazine, at_depot, at_pages, at_large, with_values}

@@ -7,16 +7,16 @@ use Rattle.std.proofs.lemmas.List.Sums.{sum_by-cons}
 use Rattle.mz_base.specs.declared.profile.Profile.{Profile}
 use Rattle.mz_base.specs.declared.range.TheConstants.{PAGE}
 use Rattle.mz_base.specs.Space.{Block, block_at, block_end, blocks_apart}
-use Rattle.mz_history.specs.declared.event.Event.TheVariants.{Take, New, End, Full, Dry}
-use Rattle.mz_history.specs.declared.entry.Entry.{Entry}
-use Rattle.mz_history.specs.Places.{Spot}
-use Rattle.mz_history.specs.State.{Kept, Deed, Value, State, nothing_kept, live_size}
+use Rattle.mz_events.specs.declared.event.Event.TheVariants.{Take, New, End, Full, Dry}
+use Rattle.mz_events.specs.declared.entry.Entry.{Entry}
+use Rattle.mz_events.specs.Places.{Spot}
+use Rattle.mz_events.specs.State.{Kept, Deed, Value, State, nothing_kept, live_size}
 use Rattle.mz_base.specs.Lists.{has_block, add_block, drop_block}
 use Rattle.mz_base.specs.Room.{any_has_room, has_free}
-use Rattle.mz_history.specs.Rules.{Fits, is_placed_in_magazine}
-use Rattle.mz_history.specs.Effect.{after}
-use Rattle.mz_history.specs.Changes.{still_freed}
-use Rattle.mz_history.specs.History.{IsLawful, AreLawful, after_all}
+use Rattle.mz_events.specs.Rules.{Fits, is_placed_in_magazine}
+use Rattle.mz_events.specs.Effect.{after}
+use Rattle.mz_events.specs.Changes.{still_freed}
+use Rattle.mz_events.specs.History.{IsLawful, AreLawful, after_all}
 use Rattle.mz_run.specs.Blocks.{the_region, region_end, IsQuanta, IsTiled}
 use Rattle.mz_run.specs.Session.{the_magazine, the_depot, bytes_in}
 use Rattle.mz_run.proofs.BlocksLemmas.{sum-add, sum-drop}

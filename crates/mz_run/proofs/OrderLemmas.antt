@@ -3,10 +3,10 @@ use Rattle.std.proofs.Common.{◌≡◌, ℕ, ◌+◌, ◌<◌, ◌≤◌, true,
 use Rattle.std.specs.Prelude.{nat_le, nat_lt, filter}
 use Rattle.std.proofs.lemmas.Bool.{and_from, le-leb, lt-ltb, le-ltb}
 use Rattle.mz_base.specs.declared.profile.Profile.{Profile}
-use Rattle.mz_history.specs.declared.entry.Entry.{Entry}
-use Rattle.mz_history.specs.State.{State, opening}
+use Rattle.mz_events.specs.declared.entry.Entry.{Entry}
+use Rattle.mz_events.specs.State.{State, opening}
 use Rattle.mz_base.specs.Lists.{insert_by}
-use Rattle.mz_history.specs.History.{AreLawful, after_all, after_entry, by_ticket}
+use Rattle.mz_events.specs.History.{AreLawful, after_all, after_entry, by_ticket}
 use Rattle.mz_trace.specs.declared.run.CallRecord.{CallRecord}
 use Rattle.mz_record.specs.Moments.{state_before}
 use Rattle.mz_fit.specs.Records.{call_record, call_records, entries_of_records}

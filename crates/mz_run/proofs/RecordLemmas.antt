@@ -5,13 +5,13 @@ use Rattle.mz_base.specs.declared.profile.Profile.{Profile}
 use Rattle.mz_base.specs.declared.range.Range.{Range}
 use Rattle.mz_base.specs.Sizes.{good_size_of}
 use Rattle.mz_base.specs.Space.{Block, block_at}
-use Rattle.mz_history.specs.declared.place.Place.TheVariants.{Pages, Large}
-use Rattle.mz_history.specs.declared.event.Event.TheVariants.{Take, New, End, Full, Dry}
-use Rattle.mz_history.specs.declared.entry.Entry.{Entry}
-use Rattle.mz_history.specs.Places.{spot_of}
-use Rattle.mz_history.specs.State.{State, opening, look_up, value_at}
-use Rattle.mz_history.specs.Effect.{touched}
-use Rattle.mz_history.specs.History.{after_all, after_entry}
+use Rattle.mz_events.specs.declared.place.Place.TheVariants.{Pages, Large}
+use Rattle.mz_events.specs.declared.event.Event.TheVariants.{Take, New, End, Full, Dry}
+use Rattle.mz_events.specs.declared.entry.Entry.{Entry}
+use Rattle.mz_events.specs.Places.{spot_of}
+use Rattle.mz_events.specs.State.{State, opening, look_up, value_at}
+use Rattle.mz_events.specs.Effect.{touched}
+use Rattle.mz_events.specs.History.{after_all, after_entry}
 use Rattle.mz_trace.specs.declared.run.CallRecord.{CallRecord}
 use Rattle.mz_run.specs.declared.session.Session.{Session}
 use Rattle.mz_words.specs.declared.name.Name.TheVariants.{Base}

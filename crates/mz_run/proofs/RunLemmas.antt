@@ -9,10 +9,10 @@ use Rattle.std.proofs.lemmas.Bool.{false≢true}
 use Rattle.std.proofs.lemmas.List.{append-nil, length-map}
 use Rattle.std.proofs.lemmas.Option.{none-some}
 use Rattle.mz_base.specs.Space.{Block}
-use Rattle.mz_history.specs.declared.entry.Entry.{Entry}
-use Rattle.mz_history.specs.Places.{spot_of}
-use Rattle.mz_history.specs.State.{State, opening, look_up, live_blocks, live_size}
-use Rattle.mz_history.specs.History.{AreLawful, after_all, by_ticket, IsLawfulHistory, owes_nothing}
+use Rattle.mz_events.specs.declared.entry.Entry.{Entry}
+use Rattle.mz_events.specs.Places.{spot_of}
+use Rattle.mz_events.specs.State.{State, opening, look_up, live_blocks, live_size}
+use Rattle.mz_events.specs.History.{AreLawful, after_all, by_ticket, IsLawfulHistory, owes_nothing}
 use Rattle.mz_trace.specs.declared.run.Step.{Step}
 use Rattle.mz_trace.specs.declared.run.CallRecord.{CallRecord}
 use Rattle.mz_run.specs.declared.session.Session.{Session}

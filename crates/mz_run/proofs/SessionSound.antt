@@ -11,7 +11,7 @@ use Rattle.mz_base.specs.Names.{is_base_name}
 use Rattle.mz_base.specs.Sizes.{good_size_of}
 use Rattle.mz_base.specs.Space.{Block, block_at, block_end, blocks_apart, same_block}
 use Rattle.mz_base.specs.Lists.{insert_by, has_block, add_block, drop_block}
-use Rattle.mz_history.specs.Changes.{still_freed}
+use Rattle.mz_events.specs.Changes.{still_freed}
 use Rattle.mz_trace.specs.declared.run.CallRecord.{CallRecord}
 use Rattle.mz_run.specs.declared.session.Session.{Session}
 use Rattle.mz_run.specs.Blocks.{region_end, IsQuanta, IsTiled}

@@ -2,9 +2,9 @@
 use Rattle.std.proofs.Common.{◌≡◌, ℕ, ◌<◌, Bool, true, false, List, [], ◌∷◌, Option, None}
 use Rattle.mz_base.specs.declared.profile.Profile.{Profile}
 use Rattle.mz_base.specs.Space.{Block}
-use Rattle.mz_history.specs.declared.place.Place.TheVariants.{Pages, Large}
-use Rattle.mz_history.specs.Places.{Spot, spot_of}
-use Rattle.mz_history.specs.State.{Kept, Deed, Value, State, nothing_kept}
+use Rattle.mz_events.specs.declared.place.Place.TheVariants.{Pages, Large}
+use Rattle.mz_events.specs.Places.{Spot, spot_of}
+use Rattle.mz_events.specs.State.{Kept, Deed, Value, State, nothing_kept}
 use Rattle.mz_run.specs.declared.session.Session.{Session}
 use Rattle.mz_run.specs.Blocks.{the_region}
 use Rattle.mz_run.specs.Session.{the_magazine, the_depot}

@@ -6,11 +6,11 @@ use Rattle.mz_base.specs.declared.profile.Profile.{Profile}
 use Rattle.mz_base.specs.declared.range.Range.TheVariants as range
 use Rattle.mz_base.specs.Sizes.{good_size_of, route_of}
 use Rattle.mz_base.specs.Space.{Block, block_at}
-use Rattle.mz_history.specs.declared.event.Event.TheVariants.{Take, New, End, Full, Dry}
-use Rattle.mz_history.specs.declared.entry.Entry.{Entry}
-use Rattle.mz_history.specs.State.{State, nothing_kept}
+use Rattle.mz_events.specs.declared.event.Event.TheVariants.{Take, New, End, Full, Dry}
+use Rattle.mz_events.specs.declared.entry.Entry.{Entry}
+use Rattle.mz_events.specs.State.{State, nothing_kept}
 use Rattle.mz_base.specs.Lists.{has_block, add_block}
-use Rattle.mz_history.specs.Changes.{still_freed}
+use Rattle.mz_events.specs.Changes.{still_freed}
 use Rattle.mz_trace.specs.declared.run.CallRecord.{CallRecord}
 use Rattle.mz_run.specs.declared.session.Session.{Session}
 use Rattle.mz_run.specs.Session.{the_magazine, the_depot, bytes_in, IsSound, IsPlace, HasNoRoom, after_serving, after_dropping, Turn, refused_held, served_in_region, served_in_fresh_region, not_served, refused_not_held, dropped}

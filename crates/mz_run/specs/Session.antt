@@ -6,15 +6,15 @@ use Rattle.mz_base.specs.declared.range.Range.TheVariants as range
 use Rattle.mz_base.specs.Names.{is_base_name}
 use Rattle.mz_base.specs.Sizes.{good_size_of}
 use Rattle.mz_base.specs.Space.{Block, block_at, block_end, blocks_apart}
-use Rattle.mz_history.specs.declared.place.Place.{Place}
-use Rattle.mz_history.specs.declared.place.Place.TheVariants.{Tiny, TinyDepot}
-use Rattle.mz_history.specs.declared.event.Event.{Event}
-use Rattle.mz_history.specs.declared.event.Event.TheVariants.{Take, New, End, Full, Dry}
-use Rattle.mz_history.specs.State.{Kept, nothing_kept}
+use Rattle.mz_events.specs.declared.place.Place.{Place}
+use Rattle.mz_events.specs.declared.place.Place.TheVariants.{Tiny, TinyDepot}
+use Rattle.mz_events.specs.declared.event.Event.{Event}
+use Rattle.mz_events.specs.declared.event.Event.TheVariants.{Take, New, End, Full, Dry}
+use Rattle.mz_events.specs.State.{Kept, nothing_kept}
 use Rattle.mz_base.specs.Lists.{has_block, add_block, drop_block}
 use Rattle.mz_base.specs.Room.{any_has_room}
-use Rattle.mz_history.specs.Placement.{is_placed_in_magazine}
-use Rattle.mz_history.specs.Changes.{still_freed}
+use Rattle.mz_events.specs.Placement.{is_placed_in_magazine}
+use Rattle.mz_events.specs.Changes.{still_freed}
 use Rattle.mz_trace.specs.declared.command.Command.TheVariants.{Malloc, Free}
 use Rattle.mz_trace.specs.declared.answer.Answer.TheVariants as answers
 use Rattle.mz_words.specs.declared.name.Name.{Name}

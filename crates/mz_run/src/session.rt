@@ -5,7 +5,7 @@ ghost use Rattle.std.specs.List.{list_all};
 ghost use Rattle.mz_base.specs.Names.{is_base_name};
 ghost use Rattle.mz_base.specs.Sizes.{good_size_of};
 ghost use Rattle.mz_base.specs.Space.{block_at, block_end, blocks_apart};
-ghost use Rattle.mz_history.specs.Changes.{still_freed as still_freed_of};
+ghost use Rattle.mz_events.specs.Changes.{still_freed as still_freed_of};
 ghost use Rattle.mz_base.specs.Room.{any_has_room};
 ghost use Rattle.mz_run.specs.Blocks.{the_region, region_end, IsQuanta};
 ghost use Rattle.mz_run.specs.Built.{is_built_command};
@@ -15,7 +15,7 @@ ghost use Rattle.mz_run.specs.Session.{IsSound, IsOpened, IsPlace, NamesWith, Ha
 use crate::blocks::{Block, Blocks};
 use crate::names::Names;
 use mz_base::{Items, PAGE, Range, ZoneName, units};
-use mz_history::{Event, Place};
+use mz_events::{Event, Place};
 use mz_io::Gate;
 use mz_trace::{Answer, CallRecord, Command, Figures, Listed, Statistics, Step};
 use mz_words::{BaseName, BlockName, Name};

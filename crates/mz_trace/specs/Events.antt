@@ -5,8 +5,8 @@ use Rattle.mz_words.specs.declared.kind.Word.TheVariants as word
 use Rattle.mz_words.specs.declared.table.Form.{Form}
 use Rattle.mz_words.specs.declared.table.Form.TheVariants as form
 use Rattle.mz_words.specs.declared.sentence.Sentence.{Sentence}
-use Rattle.mz_history.specs.declared.event.Event.{Event}
-use Rattle.mz_history.specs.declared.event.Event.TheVariants as event
+use Rattle.mz_events.specs.declared.event.Event.{Event}
+use Rattle.mz_events.specs.declared.event.Event.TheVariants as event
 use Rattle.mz_words.specs.Sentences.{sentence, sentence_words, words_fit}
 
 -- an event: its word, then its places and numbers

@@ -4,7 +4,7 @@ ghost use Rattle.std.specs.Prelude.{◌≡◌, ◌++◌, OnOk, string_bytes};
 ghost use Rattle.std.specs.List.{join_with_byte};
 ghost use Rattle.mz_trace.specs.Events.{event_words};
 
-use mz_history::Event;
+use mz_events::Event;
 use mz_words::{Form, Word, write_sentence};
 use std::alloc::AllocError;
 

@@ -2,7 +2,7 @@ use crate::answer::Answer;
 use crate::command::Command;
 use crate::round::RoundLine;
 use mz_base::{Items, Profile};
-use mz_history::Event;
+use mz_events::Event;
 
 /// An event with its ticket. Whose it is, the section in which it stands says.
 #[derive(Clone, Copy, Debug, PartialEq, Eq)]

@@ -11,8 +11,8 @@ use Rattle.mz_words.specs.Lines.{are_visible}
 use Rattle.mz_words.specs.Kinds.{kind_of}
 use Rattle.mz_words.specs.Table.{form_among, form_word, kinds_of}
 use Rattle.mz_words.specs.Sentences.{words_fit, sentence, sentence_in, sentence_words, IsSentence}
-use Rattle.mz_history.specs.declared.event.Event.{Event}
-use Rattle.mz_history.specs.declared.event.Event.TheVariants as event
+use Rattle.mz_events.specs.declared.event.Event.{Event}
+use Rattle.mz_events.specs.declared.event.Event.TheVariants as event
 use Rattle.mz_trace.specs.Events.{event_sentence, event_words, event_fits}
 use Rattle.std.specs.Fmt.{decimal}
 use Rattle.std.proofs.lemmas.Bool.{and_parts, and_from}

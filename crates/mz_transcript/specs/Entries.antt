@@ -1,7 +1,7 @@
 -- Entries of a printed run, from their words. This follows the code; that they are those of the texts is proved.
 use Rattle.std.specs.Prelude.{ℕ, List, [], ◌∷◌, Option, Some, None}
-use Rattle.mz_history.specs.declared.event.Event.{Event}
-use Rattle.mz_history.specs.declared.event.Event.TheVariants as event
+use Rattle.mz_events.specs.declared.event.Event.{Event}
+use Rattle.mz_events.specs.declared.event.Event.TheVariants as event
 use Rattle.mz_words.specs.declared.kind.Word.{Word}
 use Rattle.mz_words.specs.declared.kind.Word.TheVariants as word
 use Rattle.mz_words.specs.declared.table.Form.{Form}

@@ -3,7 +3,7 @@
 ghost use Rattle.std.specs.Prelude.{◌≡◌, IfOk, map};
 ghost use Rattle.mz_transcript.specs.Entries.{event_of, event_in, step_in};
 
-use mz_history::Event;
+use mz_events::Event;
 use mz_trace::Step;
 use mz_words::numbers::number;
 use mz_words::table::EVENTS;

@@ -9,7 +9,7 @@ use Rattle.std.proofs.lemmas.Bool.Decides.{nat_tests}
 use Rattle.std.proofs.lemmas.List.{append_assoc}
 use Rattle.std.proofs.Math.Seq.{take-append_seam, drop-append_seam}
 use Rattle.mz_base.specs.Names.{is_digit}
-use Rattle.mz_history.specs.declared.place.Place.{Place}
+use Rattle.mz_events.specs.declared.place.Place.{Place}
 use Rattle.mz_words.specs.Numbers.{is_from, are_digits, ◌>>=◌, small_number_of, is_u32}
 use Rattle.mz_base.specs.declared.range.Range.{Range}
 use Rattle.mz_base.specs.declared.range.Range.TheVariants as range
@@ -18,7 +18,7 @@ use Rattle.mz_words.specs.Places.{place_word, place_in, zone_place_of, place_of,
 use Rattle.mz_words.specs.Hex.{hex_digit, hex_word, hex_value, bytes_of, shown_of, are_shown}
 use Rattle.mz_words.proofs.NumberLemmas.{number_parts, all_digits, is_number-decimal}
 use Rattle.mz_words.proofs.NumberIsReadAgain.{limited_again, found_at}
-use Rattle.mz_history.specs.declared.place.Place.TheVariants as place
+use Rattle.mz_events.specs.declared.place.Place.TheVariants as place
 
 -- numbers of zones and magazines
 pub small_again : (n : ℕ) → is_u32 n ≡ true → small_number_of (decimal n) ≡ Some n

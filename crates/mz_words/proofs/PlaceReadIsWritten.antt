@@ -8,7 +8,7 @@ use Rattle.std.proofs.lemmas.Bool.{and_parts, and_from, lt-ltb, le-ltb, leb-true
 use Rattle.std.proofs.lemmas.Bool.Decides.{nat_tests}
 use Rattle.std.proofs.lemmas.List.{append_assoc, take-append-drop, nil_from_length}
 use Rattle.mz_base.specs.Names.{is_digit}
-use Rattle.mz_history.specs.declared.place.Place.{Place}
+use Rattle.mz_events.specs.declared.place.Place.{Place}
 use Rattle.mz_words.specs.Numbers.{number_of, is_from, ◌>>=◌, small_number_of, is_u32}
 use Rattle.mz_base.specs.declared.range.Range.{Range}
 use Rattle.mz_base.specs.declared.range.Range.TheVariants as range
@@ -16,7 +16,7 @@ use Rattle.mz_words.specs.Ranges.{range_word, is_listed_range, range_of}
 use Rattle.mz_words.specs.Places.{place_word, place_in, zone_place_of, place_of, place_fits}
 use Rattle.mz_words.specs.Hex.{hex_digit, hex_word, hex_value, bytes_of, shown_of, are_shown}
 use Rattle.mz_words.proofs.ReadIsWritten.{bind_parts, some_same, if_parts, if_else, same_word, limited_spelled}
-use Rattle.mz_history.specs.declared.place.Place.TheVariants as place
+use Rattle.mz_events.specs.declared.place.Place.TheVariants as place
 
 pub small_spelled : (w : List ℕ) (n : ℕ) → small_number_of w ≡ Some n → (w ≡ decimal n) × (is_u32 n ≡ true)
 small_spelled w n h =

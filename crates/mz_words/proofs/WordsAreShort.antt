@@ -7,8 +7,8 @@ use Rattle.std.proofs.lemmas.List.{length-append}
 use Rattle.mz_base.specs.Names.{is_base_name}
 use Rattle.mz_base.specs.declared.range.Range.{Range}
 use Rattle.mz_base.specs.declared.range.Range.TheVariants as range
-use Rattle.mz_history.specs.declared.place.Place.{Place}
-use Rattle.mz_history.specs.declared.place.Place.TheVariants as place
+use Rattle.mz_events.specs.declared.place.Place.{Place}
+use Rattle.mz_events.specs.declared.place.Place.TheVariants as place
 use Rattle.mz_words.specs.declared.name.BatchName.{BatchName}
 use Rattle.mz_words.specs.declared.name.GivenName.{GivenName}
 use Rattle.mz_words.specs.declared.name.Name.{Name}

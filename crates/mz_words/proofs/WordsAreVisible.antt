@@ -14,14 +14,14 @@ use Rattle.mz_words.specs.Places.{place_word, place_fits}
 use Rattle.mz_words.specs.Hex.{hex_digit, hex_word}
 use Rattle.mz_words.proofs.NumberLemmas.{is_number-decimal, number_parts, all_digits}
 use Rattle.std.proofs.lemmas.List.Folds.{list_all-append}
-use Rattle.mz_history.specs.declared.place.Place.{Place}
+use Rattle.mz_events.specs.declared.place.Place.{Place}
 use Rattle.mz_words.proofs.NumberIsReadAgain.{and_three}
 use Rattle.mz_words.specs.Lines.{is_visible, is_visible_word}
 use Rattle.mz_words.specs.Ranges.{range_word, is_listed_range}
 use Rattle.mz_base.specs.declared.range.Range.{Range}
 use Rattle.mz_base.specs.declared.range.Range.TheVariants as range
 use Rattle.mz_words.specs.declared.name.Name.TheVariants as name
-use Rattle.mz_history.specs.declared.place.Place.TheVariants as place
+use Rattle.mz_events.specs.declared.place.Place.TheVariants as place
 
 pub record IsBase (c : ℕ) (cs : List ℕ) : Type 0 where
   pub letter : is_letter c ≡ true

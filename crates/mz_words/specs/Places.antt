@@ -3,8 +3,8 @@ use Rattle.std.specs.Prelude.{ℕ, ◌==◌, Bool, true, ◌&&◌, not, List, []
 use Rattle.std.specs.Str.{bytes_eq}
 use Rattle.std.specs.Fmt.{decimal}
 use Rattle.mz_base.specs.Names.{is_digit}
-use Rattle.mz_history.specs.declared.place.Place.{Place}
-use Rattle.mz_history.specs.declared.place.Place.TheVariants as place
+use Rattle.mz_events.specs.declared.place.Place.{Place}
+use Rattle.mz_events.specs.declared.place.Place.TheVariants as place
 use Rattle.mz_words.specs.Numbers.{is_u32, small_number_of, ◌>>=◌}
 
 -- the free pages, tiny and small magazines and depots, large, nano

@@ -13,7 +13,7 @@ use crate::printing::{
 use crate::reading;
 use crate::shown::Shown;
 use mz_base::{Range, ZoneName};
-use mz_history::Place;
+use mz_events::Place;
 use std::alloc::AllocError;
 
 /// What may stand in one place of a line.

@@ -11,7 +11,7 @@ ghost use Rattle.mz_words.specs.Ranges.{range_word};
 
 use crate::name::Name;
 use mz_base::Range;
-use mz_history::Place;
+use mz_events::Place;
 use std::alloc::AllocError;
 
 pub fn print_number(out: &mut String, n: u64) -> Result<(), AllocError>

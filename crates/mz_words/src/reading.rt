@@ -13,7 +13,7 @@ use crate::name::{BaseName, BatchName, BlockName, GivenName, Name, OldName};
 use crate::numbers::number;
 use crate::shown::Shown;
 use mz_base::{Range, ZoneName};
-use mz_history::Place;
+use mz_events::Place;
 
 /// A base name.
 pub fn base(word: &[u8]) -> Option<BaseName>

@@ -3,15 +3,15 @@
 
 ghost use Rattle.std.specs.Prelude.{◌≡◌, [], ◌∷◌, ◌++◌};
 ghost use Rattle.mz_base.specs.Space.{block_at, run_at};
-ghost use Rattle.mz_history.specs.declared.event.Event.TheVariants as event;
-ghost use Rattle.mz_history.specs.Places.{spot_of};
-ghost use Rattle.mz_history.specs.Rules.{duty_first};
-ghost use Rattle.mz_history.specs.State.{live_blocks, placed_runs};
-ghost use Rattle.mz_history.specs.History.{IsLawfulHistory, breach_of, state_of};
+ghost use Rattle.mz_events.specs.declared.event.Event.TheVariants as event;
+ghost use Rattle.mz_events.specs.Places.{spot_of};
+ghost use Rattle.mz_events.specs.Rules.{duty_first};
+ghost use Rattle.mz_events.specs.State.{live_blocks, placed_runs};
+ghost use Rattle.mz_events.specs.History.{IsLawfulHistory, breach_of, state_of};
 ghost use Rattle.mz_examples.specs.Examples.{entry_of, breach_at, magazine, depot};
 ghost use Rattle.mz_examples.specs.Cycles.{MIB, two_regions, until_thin, put_aside, served_elsewhere, taken_again as back_again, given_back as back_to_pages};
 
-use mz_history::laws::lawful_without_breach;
+use mz_events::laws::lawful_without_breach;
 
 /// A sparse region of a magazine in excess goes to the depot with its block, and serves the
 /// magazine again.

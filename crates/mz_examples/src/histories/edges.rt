@@ -2,16 +2,16 @@
 
 ghost use Rattle.std.specs.Prelude.{◌≡◌, [], ◌∷◌};
 ghost use Rattle.mz_base.specs.Space.{block_at, run_at};
-ghost use Rattle.mz_history.specs.Places.{spot_of};
-ghost use Rattle.mz_history.specs.Rules.{in_turn, duty_first, existing, takes_claimed, backs_allowed, fits_apart, placed, live_there, no_room, zone_changes};
-ghost use Rattle.mz_history.specs.State.{live_blocks, placed_runs};
-ghost use Rattle.mz_history.specs.History.{IsLawfulHistory, breach_of, state_of};
+ghost use Rattle.mz_events.specs.Places.{spot_of};
+ghost use Rattle.mz_events.specs.Rules.{in_turn, duty_first, existing, takes_claimed, backs_allowed, fits_apart, placed, live_there, no_room, zone_changes};
+ghost use Rattle.mz_events.specs.State.{live_blocks, placed_runs};
+ghost use Rattle.mz_events.specs.History.{IsLawfulHistory, breach_of, state_of};
 ghost use Rattle.mz_examples.specs.Examples.{profile_of, breach_at, magazine};
 ghost use Rattle.mz_examples.specs.Cycles.{two_regions};
 ghost use Rattle.mz_examples.specs.Rows.{two_zones};
 ghost use Rattle.mz_examples.specs.Edges.{two_callers, two_zones_in_8_pages, small_magazine, claim_of_other, two_sizes, ticket_twice, unknown_caller, to_other_range, cached_run_fits, nothing_asks, part_of_a_run, full_but_for_last_freed, of_its_own_zone, shut_too_early, opened_too_early, bare_region, bare_region_back, taken_in_between, small_block, not_at_a_quantum};
 
-use mz_history::laws::lawful_without_breach;
+use mz_events::laws::lawful_without_breach;
 
 /// A region is taken by the caller that found magazine and depot full, for one request.
 pub fn claims()

@@ -3,16 +3,16 @@
 
 ghost use Rattle.std.specs.Prelude.{◌≡◌, ◌+◌, ◌-◌, [], ◌∷◌, ◌++◌};
 ghost use Rattle.mz_base.specs.Space.{block_at, run_at};
-ghost use Rattle.mz_history.specs.declared.event.Event.TheVariants as event;
-ghost use Rattle.mz_history.specs.declared.place.Place.TheVariants as place;
-ghost use Rattle.mz_history.specs.Places.{spot_of, spot_at};
-ghost use Rattle.mz_history.specs.Rules.{duty_first, existing, takes_lowest, backs_unused, fits_apart, placed, zone_changes};
-ghost use Rattle.mz_history.specs.State.{live_blocks, placed_runs, all_runs};
-ghost use Rattle.mz_history.specs.History.{IsLawfulHistory, breach_of, state_of};
+ghost use Rattle.mz_events.specs.declared.event.Event.TheVariants as event;
+ghost use Rattle.mz_events.specs.declared.place.Place.TheVariants as place;
+ghost use Rattle.mz_events.specs.Places.{spot_of, spot_at};
+ghost use Rattle.mz_events.specs.Rules.{duty_first, existing, takes_lowest, backs_unused, fits_apart, placed, zone_changes};
+ghost use Rattle.mz_events.specs.State.{live_blocks, placed_runs, all_runs};
+ghost use Rattle.mz_events.specs.History.{IsLawfulHistory, breach_of, state_of};
 ghost use Rattle.mz_examples.specs.Examples.{profile_of, entry_of, breach_at, magazine, large, first_region};
 ghost use Rattle.mz_examples.specs.Rows.{one_ends, not_lower, wide_reading, narrow_reading, overwritten, large_cache as served_again, until_limit, cache_limit as row_of_17, grown as block_grown, blocked, two_zones, second, zone_life as zone_of_its_own, two_nano_pages, LAST_PAGE, first_slot, slots};
 
-use mz_history::laws::lawful_without_breach;
+use mz_events::laws::lawful_without_breach;
 
 /// A block of just the size of the last freed one is placed there and nowhere else.
 pub fn freed_last()

@@ -3,18 +3,18 @@
 
 ghost use Rattle.std.specs.Prelude.{◌≡◌, [], ◌∷◌, ◌++◌, false, IsTrue};
 ghost use Rattle.mz_base.specs.Space.{block_at, blocks_apart};
-ghost use Rattle.mz_history.specs.declared.event.Event.TheVariants as event;
-ghost use Rattle.mz_history.specs.Places.{spot_of};
-ghost use Rattle.mz_history.specs.State.{value_at, kept_at, live_blocks};
-ghost use Rattle.mz_history.specs.Effect.{touches};
-ghost use Rattle.mz_history.specs.Rules.{takes_lowest, fits_apart};
-ghost use Rattle.mz_history.specs.History.{IsLawfulHistory, breach_of, state_of};
+ghost use Rattle.mz_events.specs.declared.event.Event.TheVariants as event;
+ghost use Rattle.mz_events.specs.Places.{spot_of};
+ghost use Rattle.mz_events.specs.State.{value_at, kept_at, live_blocks};
+ghost use Rattle.mz_events.specs.Effect.{touches};
+ghost use Rattle.mz_events.specs.Rules.{takes_lowest, fits_apart};
+ghost use Rattle.mz_events.specs.History.{IsLawfulHistory, breach_of, state_of};
 ghost use Rattle.mz_examples.specs.Examples.{entry_of, breach_at, magazine};
 ghost use Rattle.mz_examples.specs.Cycles.{MIB};
 ghost use Rattle.mz_examples.specs.Rows.{second};
 ghost use Rattle.mz_examples.specs.Zones.{regions_for_two_zones, one_serves, both_have, both_serve, other_ends};
 
-use mz_history::laws::lawful_without_breach;
+use mz_events::laws::lawful_without_breach;
 
 /// Zone 0 can't take the pages of zone 1's region, nor place a block in it.
 pub fn not_in_two_places()

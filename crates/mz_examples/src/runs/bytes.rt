@@ -4,7 +4,7 @@
 ghost use Rattle.mz_examples.specs.Spoiled.{IsLawful, WrongBytes};
 ghost use Rattle.mz_examples.specs.RunsBytes.{given_shown, grown_shown, moved_shown, emptied_shown};
 
-use mz_history::laws::lawful_without_breach;
+use mz_events::laws::lawful_without_breach;
 
 /// A block that is given has the bytes that its giver wrote.
 pub fn given()

@@ -3,15 +3,15 @@
 
 ghost use Rattle.std.specs.Prelude.{◌∷◌, [], drop};
 ghost use Rattle.mz_base.specs.Space.{block_at};
-ghost use Rattle.mz_history.specs.declared.event.Event.TheVariants as event;
-ghost use Rattle.mz_history.specs.History.{IsLawfulHistory};
+ghost use Rattle.mz_events.specs.declared.event.Event.TheVariants as event;
+ghost use Rattle.mz_events.specs.History.{IsLawfulHistory};
 ghost use Rattle.mz_examples.specs.Examples.{profile_of, entry_of, magazine, depot, large, last_freed_block};
 ghost use Rattle.mz_examples.specs.Rows.{cache_limit, two_nano_pages, LAST_PAGE, slots};
 ghost use Rattle.mz_examples.specs.Cycles.{two_regions, put_aside, taken_again, given_back};
 ghost use Rattle.mz_record.specs.Dropped.{IsDropped};
 ghost use Rattle.mz_examples.specs.RunsServed.{two_regions_for_two, other_before_move, other_moves_first, own_before_move};
 
-use mz_history::laws::lawful_without_breach;
+use mz_events::laws::lawful_without_breach;
 
 /// A block ends, and nothing is due: the `end` is all, and it is of that block.
 pub fn end_alone()

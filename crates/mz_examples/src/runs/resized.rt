@@ -3,9 +3,9 @@
 
 ghost use Rattle.std.specs.Prelude.{◌≡◌, [], ◌++◌, None, Some};
 ghost use Rattle.mz_base.specs.Space.{block_at};
-ghost use Rattle.mz_history.specs.History.{IsLawfulHistory, by_ticket};
+ghost use Rattle.mz_events.specs.History.{IsLawfulHistory, by_ticket};
 ghost use Rattle.mz_examples.specs.Examples.{profile_of, magazine, depot};
-ghost use Rattle.mz_history.specs.declared.place.Place.TheVariants as place;
+ghost use Rattle.mz_events.specs.declared.place.Place.TheVariants as place;
 ghost use Rattle.mz_examples.specs.Rows.{two_zones, second_serves, two_nano_pages, LAST_PAGE, first_slot};
 ghost use Rattle.mz_examples.specs.Edges.{two_callers};
 ghost use Rattle.mz_record.specs.Moments.{state_at};
@@ -17,7 +17,7 @@ ghost use Rattle.mz_fit.specs.LawfulRun.{placed_records};
 ghost use Rattle.mz_examples.specs.Spoiled.{AtRecord};
 ghost use Rattle.mz_examples.specs.RunsResized.{ResizesA, makes_a, grows, row_realloc, moves_away, shrinks, moves_behind, moves_to_least, no_small_region, neighbour_goes, moves_then, two_zones_for_two, with_opening, run_with_opening, run_with_none, own_goes, makes_c, moves_c, makes_d, no_seven_pages, moves_in_nano, grows_in_nano, moves_in_second, asks_other_zone, live_in};
 
-use mz_history::laws::lawful_without_breach;
+use mz_events::laws::lawful_without_breach;
 
 /// A block whose good size stays the same stays as it is, with no entry, and answers with that size.
 pub fn same_size()

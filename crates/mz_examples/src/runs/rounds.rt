@@ -2,7 +2,7 @@
 
 ghost use Rattle.std.specs.Prelude.{◌≡◌, true};
 ghost use Rattle.std.specs.List.{flat_map};
-ghost use Rattle.mz_history.specs.History.{IsLawfulHistory};
+ghost use Rattle.mz_events.specs.History.{IsLawfulHistory};
 ghost use Rattle.mz_trace.specs.RunTexts.{trace_of};
 ghost use Rattle.mz_fit.specs.Records.{entries_of_round};
 ghost use Rattle.mz_fit.specs.Settings.{low};
@@ -13,7 +13,7 @@ ghost use Rattle.mz_examples.specs.Spoiled.{IsLawful, AtRecord, WrongAnswer, Wro
 ghost use Rattle.mz_examples.specs.RunsServed.{two_callers_in_8_pages};
 ghost use Rattle.mz_examples.specs.RunsRounds.{crossing, overtaking, larger_answer, falling, opening_round, freed_by_other, asks_in_between, run_of_rounds, run_in_8_pages};
 
-use mz_history::laws::lawful_without_breach;
+use mz_events::laws::lawful_without_breach;
 
 /// Tickets of two callers may cross within a round, and not from one round to the next. Those of the
 /// lines at the start of a round come first.

@@ -3,7 +3,7 @@
 
 ghost use Rattle.std.specs.Prelude.{◌≡◌, ◌∷◌, [], ◌++◌, true, false, codes};
 ghost use Rattle.mz_trace.specs.declared.answer.Answer.TheVariants as answers;
-ghost use Rattle.mz_history.specs.declared.event.Event.TheVariants as event;
+ghost use Rattle.mz_events.specs.declared.event.Event.TheVariants as event;
 ghost use Rattle.mz_trace.specs.declared.command.Command.TheVariants.{Calloc};
 ghost use Rattle.mz_base.specs.Space.{block_at};
 ghost use Rattle.mz_fit.specs.Tail.{tail_of};
@@ -13,7 +13,7 @@ ghost use Rattle.mz_examples.specs.Records.{figures};
 ghost use Rattle.mz_examples.specs.Spoiled.{IsLawful, WrongAnswer, WrongEntries, WrongBytes};
 ghost use Rattle.mz_examples.specs.RunsRows.{name_a, end_at, new_at, first_block, row_last_freed, freed_and_served, take_left_out, last_freed_tail, row_repeated_free, freed_twice, empty_tail, row_interior_address, freed_inside, row_large_cache, served_from_cache, takes_three, serves_from_six, large_cache_tail, row_refusals, refusing, held_and_bad_align, row_realloc, realloc_tail, resized_once, grows_a, moves_without_need, renamed as in_other_name, not_moved as without_move, no_small_region, row_alignment, aligned, alignment_tail, row_bytes, bytes_tail, unknown_shown, shown, zeros, batch, three_served, three_dropped, freed_behind, first_task, placed_at, batch_in_4_pages};
 
-use mz_history::laws::lawful_without_breach;
+use mz_events::laws::lawful_without_breach;
 
 /// Row `last-freed-block`: the answer is of the block that was served, and no entry is left out.
 pub fn last_freed_block()

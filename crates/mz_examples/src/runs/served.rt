@@ -3,9 +3,9 @@
 
 ghost use Rattle.std.specs.Prelude.{◌∷◌, [], ◌++◌, None, Some, drop, take};
 ghost use Rattle.mz_base.specs.Space.{block_at};
-ghost use Rattle.mz_history.specs.declared.event.Event.TheVariants as event;
-ghost use Rattle.mz_history.specs.declared.place.Place.TheVariants as place;
-ghost use Rattle.mz_history.specs.History.{IsLawfulHistory};
+ghost use Rattle.mz_events.specs.declared.event.Event.TheVariants as event;
+ghost use Rattle.mz_events.specs.declared.place.Place.TheVariants as place;
+ghost use Rattle.mz_events.specs.History.{IsLawfulHistory};
 ghost use Rattle.mz_examples.specs.Examples.{profile_of, entry_of, magazine, other_magazine, depot, large, thin_path, last_freed_block, dry_with_a_cache};
 ghost use Rattle.mz_examples.specs.Cycles.{MIB, two_regions, taken_again};
 ghost use Rattle.mz_examples.specs.Rows.{large_cache, two_zones, second_serves, two_nano_pages, LAST_PAGE, first_slot};
@@ -13,7 +13,7 @@ ghost use Rattle.mz_examples.specs.Edges.{entry_of_other, small_magazine, small_
 ghost use Rattle.mz_record.specs.Served.{AreFlushes, IsServed, IsUndisturbed};
 ghost use Rattle.mz_examples.specs.RunsServed.{request_by, at_alignment, in_zone, region_after_flush, no_region, no_nine_pages, far_too_many, on_five, on_three, both_go_back, two_magazines, two_callers_in_8_pages, both_full, dry_at, with_other, other_behind, other_at_pages, looks_twice};
 
-use mz_history::laws::lawful_without_breach;
+use mz_events::laws::lawful_without_breach;
 
 /// A first request of 100 bytes finds magazine and depot full and gets the first 112 bytes of a
 /// fresh region; the same entries serve no other answer and no other request.

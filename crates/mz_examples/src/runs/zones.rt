@@ -4,7 +4,7 @@
 ghost use Rattle.std.specs.Prelude.{◌≡◌, ◌∷◌, []};
 ghost use Rattle.mz_trace.specs.declared.answer.Answer.TheVariants as answers;
 ghost use Rattle.mz_trace.specs.declared.command.Command.TheVariants.{Free};
-ghost use Rattle.mz_history.specs.History.{IsLawfulHistory};
+ghost use Rattle.mz_events.specs.History.{IsLawfulHistory};
 ghost use Rattle.mz_fit.specs.Records.{entries_of};
 ghost use Rattle.mz_fit.specs.Tail.{tail_of};
 ghost use Rattle.mz_examples.specs.Records.{record_of};
@@ -12,7 +12,7 @@ ghost use Rattle.mz_examples.specs.Spoiled.{IsLawful, WrongAnswer, WrongEntries,
 ghost use Rattle.mz_examples.specs.RunsRows.{name_a, end_at, empty_tail};
 ghost use Rattle.mz_examples.specs.RunsZones.{row_giving, gives, fills_given, row_zones, zones as with_zones, zones_tail, freed_in_default, not_of_default, opened_as_2, destroyed, in_ascending_order, in_descending_order, draft, asks, row_asks, freed_in_own, ends_in_second, not_of_second, one_after_the_other};
 
-use mz_history::laws::lawful_without_breach;
+use mz_events::laws::lawful_without_breach;
 
 /// Row `giving`: a name that was given is no longer held, and the new one is held from the next round
 /// on.

@@ -6,7 +6,7 @@ ghost use Rattle.mz_register.specs.Client.{MayNoteBoth};
 
 use crate::book::Book;
 use crate::laws::of_histories;
-use mz_history::{Event, Keep};
+use mz_events::{Event, Keep};
 use std::sync::Wait;
 
 /// Takes two keepers, notes two events that leave what these keep, and gives both back. The record grows by just the two entries,

@@ -1,9 +1,9 @@
 //! What several calls of a book add up to.
 
 ghost use Rattle.std.specs.Prelude.{◌≡◌, ℕ, ◌+◌, false, List, [], ◌∷◌, ◌++◌};
-ghost use Rattle.mz_history.specs.declared.entry.Entry.{Entry as entry};
-ghost use Rattle.mz_history.specs.declared.event.Event.{Event as event};
-ghost use Rattle.mz_history.specs.Holding.{changes_zones};
+ghost use Rattle.mz_events.specs.declared.entry.Entry.{Entry as entry};
+ghost use Rattle.mz_events.specs.declared.event.Event.{Event as event};
+ghost use Rattle.mz_events.specs.Holding.{changes_zones};
 ghost use Rattle.mz_register.specs.Account.{Account, entry_at};
 ghost use Rattle.mz_register.specs.Calls.{Holds, CanNote, Notes, Releases};
 ghost use Rattle.mz_register.specs.Growth.{Grows, GrowsHolding};

@@ -1,8 +1,8 @@
 //! A caller's hand, among the pairs of all.
 
 ghost use Rattle.std.specs.Prelude.{◌≡◌, ◌≢◌, ℕ, List};
-ghost use Rattle.mz_history.specs.declared.event.Event.{Event as event};
-ghost use Rattle.mz_history.specs.Hands.{hand_after};
+ghost use Rattle.mz_events.specs.declared.event.Event.{Event as event};
+ghost use Rattle.mz_events.specs.Hands.{hand_after};
 ghost use Rattle.mz_register.specs.declared.pair.Pair.{Pair as pair};
 ghost use Rattle.mz_register.specs.Pairs.{hand_in, pairs_after};
 

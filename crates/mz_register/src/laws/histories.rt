@@ -2,7 +2,7 @@
 
 ghost use Rattle.mz_register.specs.HistoryLaws.{HistoryLaws};
 
-use mz_history::laws::{entries, events, holding, separation, states};
+use mz_events::laws::{entries, events, holding, separation, states};
 
 /// They hold, all together.
 pub(crate) fn of_histories()

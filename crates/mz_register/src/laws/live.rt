@@ -3,12 +3,12 @@
 ghost use Rattle.std.specs.Prelude.{◌≡◌, ℕ, List};
 ghost use Rattle.mz_base.specs.declared.profile.Profile.{Profile};
 ghost use Rattle.mz_base.specs.Space.{Block};
-ghost use Rattle.mz_history.specs.declared.entry.Entry.{Entry as entry};
-ghost use Rattle.mz_history.specs.declared.event.Event.{Event as event};
-ghost use Rattle.mz_history.specs.State.{opening};
-ghost use Rattle.mz_history.specs.Effect.{after};
-ghost use Rattle.mz_history.specs.Rules.{Fits};
-ghost use Rattle.mz_history.specs.History.{AreLawful, after_all};
+ghost use Rattle.mz_events.specs.declared.entry.Entry.{Entry as entry};
+ghost use Rattle.mz_events.specs.declared.event.Event.{Event as event};
+ghost use Rattle.mz_events.specs.State.{opening};
+ghost use Rattle.mz_events.specs.Effect.{after};
+ghost use Rattle.mz_events.specs.Rules.{Fits};
+ghost use Rattle.mz_events.specs.History.{AreLawful, after_all};
 ghost use Rattle.mz_register.specs.Account.{is_live};
 ghost use Rattle.mz_register.specs.Living.{lives_after};
 

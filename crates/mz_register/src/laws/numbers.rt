@@ -2,8 +2,8 @@
 
 ghost use Rattle.std.specs.Prelude.{◌≡◌, ◌<◌, ℕ, Bool, true, false, List, IsTrue, ◌↔◌};
 ghost use Rattle.mz_base.specs.declared.profile.Profile.{Profile};
-ghost use Rattle.mz_history.specs.declared.place.Place.{Place as place};
-ghost use Rattle.mz_history.specs.Places.{is_nano, exists_in, spot_of, nano_page};
+ghost use Rattle.mz_events.specs.declared.place.Place.{Place as place};
+ghost use Rattle.mz_events.specs.Places.{is_nano, exists_in, spot_of, nano_page};
 ghost use Rattle.mz_register.specs.Keepers.{keeper_count, keeper_of, place_at, is_among, is_held};
 
 /// Each place but nano has a keeper's number, which is its own, and each keeper's number has a place.

@@ -1,7 +1,7 @@
 //! That a plain book may be shared between threads, where its keepers may.
 
 use crate::plain::PlainBook;
-use mz_history::Keep;
+use mz_events::Keep;
 
 fn send_and_sync<T: Send + Sync>() {}
 

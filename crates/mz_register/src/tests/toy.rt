@@ -3,7 +3,7 @@ ghost use Rattle.std.specs.Prelude.{◌≡◌, map, [], ◌∷◌, IfOk};
 ghost use Rattle.mz_register.specs.Toys.{toy_profile};
 
 use mz_base::Profile;
-use mz_history::Keep;
+use mz_events::Keep;
 use std::alloc::{AllocError, Global};
 
 /// A keeper, by its number.

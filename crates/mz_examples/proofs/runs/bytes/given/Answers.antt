@@ -5,12 +5,12 @@ use Rattle.mz_examples.specs.RunsRows.{first_block}
 use Rattle.mz_examples.specs.RunsZones.{two_in_128}
 use Rattle.mz_examples.specs.RunsBytes.{given_shown}
 use Rattle.mz_examples.proofs.RunTests.{serves}
-use Rattle.mz_history.specs.State.{look_up, write}
+use Rattle.mz_events.specs.State.{look_up, write}
 use Rattle.mz_base.specs.Lists.{insert_by}
-use Rattle.mz_history.specs.Room.{best_fit}
-use Rattle.mz_history.specs.Effect.{write_all, after}
-use Rattle.mz_history.specs.Rules.{keeps}
-use Rattle.mz_history.specs.History.{after_all, by_ticket, first_breach}
+use Rattle.mz_events.specs.Room.{best_fit}
+use Rattle.mz_events.specs.Effect.{write_all, after}
+use Rattle.mz_events.specs.Rules.{keeps}
+use Rattle.mz_events.specs.History.{after_all, by_ticket, first_breach}
 use Rattle.mz_record.specs.Listing.{by_address}
 use Rattle.mz_record.specs.Zones.{by_page}
 use Rattle.mz_fit.specs.Standing.{by_index}

@@ -2,10 +2,10 @@ use Rattle.std.proofs.Common.{refl}
 use Rattle.std.proofs.lemmas.Bool.{false≢true}
 use Rattle.std.specs.Prelude.{IsTrue, ◌||◌}
 use Rattle.mz_base.specs.Space.{block_at}
-use Rattle.mz_history.specs.declared.place.Place.{Place}
-use Rattle.mz_history.specs.declared.place.Place.TheVariants.{Pages, Tiny, TinyDepot, Small, SmallDepot, Large, Nano}
-use Rattle.mz_history.specs.Places.{is_magazine, is_depot, spot_of}
-use Rattle.mz_history.specs.State.{look_up, kept_at}
+use Rattle.mz_events.specs.declared.place.Place.{Place}
+use Rattle.mz_events.specs.declared.place.Place.TheVariants.{Pages, Tiny, TinyDepot, Small, SmallDepot, Large, Nano}
+use Rattle.mz_events.specs.Places.{is_magazine, is_depot, spot_of}
+use Rattle.mz_events.specs.State.{look_up, kept_at}
 use Rattle.mz_base.specs.Lists.{has_block}
 use Rattle.mz_examples.specs.Examples.{magazine, depot}
 use Rattle.mz_examples.specs.RunsResized.{live_in}

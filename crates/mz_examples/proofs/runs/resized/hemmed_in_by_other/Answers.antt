@@ -3,18 +3,18 @@ use Rattle.std.proofs.lemmas.Bool.{leb-true}
 use Rattle.mz_base.specs.Space.{block_at}
 use Rattle.mz_record.specs.Served as way
 use Rattle.mz_record.specs.Resized as size
-use Rattle.mz_history.specs.declared.event.Event.TheVariants as event
+use Rattle.mz_events.specs.declared.event.Event.TheVariants as event
 use Rattle.mz_examples.specs.Examples.{entry_of, magazine}
 use Rattle.mz_examples.specs.Edges.{two_callers}
 use Rattle.mz_examples.specs.RunsResized.{neighbour_goes, moves_then, own_goes}
 use Rattle.mz_examples.proofs.ResizedTests.{ends_then_moves, stays_with_room}
 use Rattle.mz_examples.proofs.RunTests.{serves}
-use Rattle.mz_history.specs.State.{look_up, write}
+use Rattle.mz_events.specs.State.{look_up, write}
 use Rattle.mz_base.specs.Lists.{insert_by}
-use Rattle.mz_history.specs.Room.{best_fit}
-use Rattle.mz_history.specs.Effect.{write_all, after}
-use Rattle.mz_history.specs.Rules.{keeps}
-use Rattle.mz_history.specs.History.{after_all, by_ticket, first_breach}
+use Rattle.mz_events.specs.Room.{best_fit}
+use Rattle.mz_events.specs.Effect.{write_all, after}
+use Rattle.mz_events.specs.Rules.{keeps}
+use Rattle.mz_events.specs.History.{after_all, by_ticket, first_breach}
 use Rattle.mz_examples.proofs.runs.resized.hemmed_in_by_other.Goals as goal
 
 pub returns-clause-lawful : goal.returns-clause-lawful

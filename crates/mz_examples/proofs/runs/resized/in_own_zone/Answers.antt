@@ -3,19 +3,19 @@ use Rattle.std.proofs.lemmas.Bool.{false≢true}
 use Rattle.mz_base.specs.Space.{block_at}
 use Rattle.mz_record.specs.Served as way
 use Rattle.mz_record.specs.Resized as size
-use Rattle.mz_history.specs.declared.event.Event.TheVariants as event
+use Rattle.mz_events.specs.declared.event.Event.TheVariants as event
 use Rattle.mz_examples.specs.Examples.{entry_of}
 use Rattle.mz_examples.specs.Rows.{second, two_zones, second_serves}
 use Rattle.mz_examples.specs.RunsResized.{moves_in_second, asks_other_zone}
 use Rattle.mz_examples.proofs.ServedTests.{served_ends}
 use Rattle.mz_examples.proofs.ResizedTests.{none_then_served}
 use Rattle.mz_examples.proofs.RunTests.{serves}
-use Rattle.mz_history.specs.State.{look_up, write}
+use Rattle.mz_events.specs.State.{look_up, write}
 use Rattle.mz_base.specs.Lists.{insert_by}
-use Rattle.mz_history.specs.Room.{best_fit}
-use Rattle.mz_history.specs.Effect.{write_all, after}
-use Rattle.mz_history.specs.Rules.{keeps}
-use Rattle.mz_history.specs.History.{after_all, by_ticket, first_breach}
+use Rattle.mz_events.specs.Room.{best_fit}
+use Rattle.mz_events.specs.Effect.{write_all, after}
+use Rattle.mz_events.specs.Rules.{keeps}
+use Rattle.mz_events.specs.History.{after_all, by_ticket, first_breach}
 use Rattle.mz_examples.proofs.runs.resized.in_own_zone.Goals as goal
 
 pub returns-clause-lawful : goal.returns-clause-lawful

@@ -6,12 +6,12 @@ use Rattle.mz_examples.specs.Examples.{profile_of}
 use Rattle.mz_examples.specs.RunsResized.{makes_a}
 use Rattle.mz_examples.proofs.ServedTests.{served_in_order}
 use Rattle.mz_examples.proofs.ResizedTests.{no_end_then_stays, none_then_served}
-use Rattle.mz_history.specs.State.{look_up, write}
+use Rattle.mz_events.specs.State.{look_up, write}
 use Rattle.mz_base.specs.Lists.{insert_by}
-use Rattle.mz_history.specs.Room.{best_fit}
-use Rattle.mz_history.specs.Effect.{write_all, after}
-use Rattle.mz_history.specs.Rules.{keeps}
-use Rattle.mz_history.specs.History.{after_all, by_ticket, first_breach}
+use Rattle.mz_events.specs.Room.{best_fit}
+use Rattle.mz_events.specs.Effect.{write_all, after}
+use Rattle.mz_events.specs.Rules.{keeps}
+use Rattle.mz_events.specs.History.{after_all, by_ticket, first_breach}
 use Rattle.mz_examples.proofs.runs.resized.same_size.Goals as goal
 
 pub returns-clause-fits : goal.returns-clause-fits

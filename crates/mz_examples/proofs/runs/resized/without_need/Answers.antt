@@ -4,12 +4,12 @@ use Rattle.mz_base.specs.Space.{block_at}
 use Rattle.mz_examples.specs.Examples.{profile_of}
 use Rattle.mz_examples.specs.RunsResized.{makes_a, moves_to_least, makes_c, moves_c}
 use Rattle.mz_examples.proofs.ResizedTests.{ends_then_moves, hemmed_at, wastes_then}
-use Rattle.mz_history.specs.State.{look_up, write}
+use Rattle.mz_events.specs.State.{look_up, write}
 use Rattle.mz_base.specs.Lists.{insert_by}
-use Rattle.mz_history.specs.Room.{best_fit}
-use Rattle.mz_history.specs.Effect.{write_all, after}
-use Rattle.mz_history.specs.Rules.{keeps}
-use Rattle.mz_history.specs.History.{after_all, by_ticket, first_breach}
+use Rattle.mz_events.specs.Room.{best_fit}
+use Rattle.mz_events.specs.Effect.{write_all, after}
+use Rattle.mz_events.specs.Rules.{keeps}
+use Rattle.mz_events.specs.History.{after_all, by_ticket, first_breach}
 use Rattle.mz_examples.proofs.runs.resized.without_need.Goals as goal
 
 pub returns-clause-shrink : goal.returns-clause-shrink

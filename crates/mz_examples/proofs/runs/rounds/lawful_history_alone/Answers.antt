@@ -1,18 +1,18 @@
 use Rattle.std.proofs.Common.{arith, refl}
 use Rattle.std.specs.List.{flat_map}
 use Rattle.mz_fit.specs.Records.{entries_of_round}
-use Rattle.mz_history.specs.declared.event.Event.TheVariants as event
-use Rattle.mz_history.specs.Places.{spot_of}
+use Rattle.mz_events.specs.declared.event.Event.TheVariants as event
+use Rattle.mz_events.specs.Places.{spot_of}
 use Rattle.mz_examples.specs.Examples.{entry_of, magazine}
 use Rattle.mz_examples.specs.Edges.{entry_of_other, two_callers}
 use Rattle.mz_examples.specs.RunsServed.{two_callers_in_8_pages, dry_at}
 use Rattle.mz_examples.specs.RunsRounds.{freed_by_other, asks_in_between}
-use Rattle.mz_history.specs.State.{look_up, write}
+use Rattle.mz_events.specs.State.{look_up, write}
 use Rattle.mz_base.specs.Lists.{insert_by}
-use Rattle.mz_history.specs.Room.{best_fit}
-use Rattle.mz_history.specs.Effect.{write_all, after}
-use Rattle.mz_history.specs.Rules.{keeps}
-use Rattle.mz_history.specs.History.{after_all, by_ticket, first_breach}
+use Rattle.mz_events.specs.Room.{best_fit}
+use Rattle.mz_events.specs.Effect.{write_all, after}
+use Rattle.mz_events.specs.Rules.{keeps}
+use Rattle.mz_events.specs.History.{after_all, by_ticket, first_breach}
 use Rattle.mz_examples.proofs.runs.rounds.lawful_history_alone.Goals as goal
 
 pub returns-clause-freed_by_other : goal.returns-clause-freed_by_other

@@ -2,18 +2,18 @@ use Rattle.std.proofs.Common.{refl, [], take, drop}
 use Rattle.std.specs.List.{flat_map}
 use Rattle.mz_record.specs.Served as way
 use Rattle.mz_fit.specs.Records.{entries_of, entries_of_round}
-use Rattle.mz_history.specs.declared.event.Event.TheVariants as event
+use Rattle.mz_events.specs.declared.event.Event.TheVariants as event
 use Rattle.mz_examples.specs.Examples.{magazine}
 use Rattle.mz_examples.specs.Edges.{entry_of_other, two_callers}
 use Rattle.mz_examples.specs.RunsRounds.{makes_block, finds_none, crossing, overtaking, run_of_rounds}
 use Rattle.mz_examples.proofs.UndisturbedTest.{undisturbed_by_test}
 use Rattle.mz_examples.proofs.RunTests.{serves}
-use Rattle.mz_history.specs.State.{look_up, write}
+use Rattle.mz_events.specs.State.{look_up, write}
 use Rattle.mz_base.specs.Lists.{insert_by}
-use Rattle.mz_history.specs.Room.{best_fit}
-use Rattle.mz_history.specs.Effect.{write_all, after}
-use Rattle.mz_history.specs.Rules.{keeps}
-use Rattle.mz_history.specs.History.{after_all, by_ticket, first_breach}
+use Rattle.mz_events.specs.Room.{best_fit}
+use Rattle.mz_events.specs.Effect.{write_all, after}
+use Rattle.mz_events.specs.Rules.{keeps}
+use Rattle.mz_events.specs.History.{after_all, by_ticket, first_breach}
 use Rattle.mz_examples.proofs.runs.rounds.order.Goals as goal
 
 pub returns-clause-lawful : goal.returns-clause-lawful

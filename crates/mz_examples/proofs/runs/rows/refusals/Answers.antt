@@ -1,18 +1,18 @@
 use Rattle.std.proofs.Common.{refl, [], ◌∷◌, take, drop}
 use Rattle.mz_record.specs.Served as way
 use Rattle.mz_fit.specs.Records.{entries_of}
-use Rattle.mz_history.specs.declared.event.Event.TheVariants as event
+use Rattle.mz_events.specs.declared.event.Event.TheVariants as event
 use Rattle.mz_examples.specs.Examples.{profile_of, entry_of, magazine, large}
 use Rattle.mz_examples.specs.RunsRows.{first_block, row_refusals, held_and_bad_align}
 use Rattle.mz_trace.specs.declared.answer.Answer.TheVariants as answers
 use Rattle.mz_examples.proofs.UndisturbedTest.{undisturbed_by_test}
 use Rattle.mz_examples.proofs.RunTests.{serves}
-use Rattle.mz_history.specs.State.{look_up, write}
+use Rattle.mz_events.specs.State.{look_up, write}
 use Rattle.mz_base.specs.Lists.{insert_by}
-use Rattle.mz_history.specs.Room.{best_fit}
-use Rattle.mz_history.specs.Effect.{write_all, after}
-use Rattle.mz_history.specs.Rules.{keeps}
-use Rattle.mz_history.specs.History.{after_all, by_ticket, first_breach}
+use Rattle.mz_events.specs.Room.{best_fit}
+use Rattle.mz_events.specs.Effect.{write_all, after}
+use Rattle.mz_events.specs.Rules.{keeps}
+use Rattle.mz_events.specs.History.{after_all, by_ticket, first_breach}
 use Rattle.mz_record.specs.Listing.{by_address}
 use Rattle.mz_record.specs.Zones.{by_page}
 use Rattle.mz_fit.specs.Standing.{by_index}

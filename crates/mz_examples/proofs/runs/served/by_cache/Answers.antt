@@ -1,18 +1,18 @@
 use Rattle.std.proofs.Common.{refl, ap}
 use Rattle.std.proofs.lemmas.Bool.{false≢true}
 use Rattle.mz_base.specs.Space.{block_at}
-use Rattle.mz_history.specs.declared.event.Event.TheVariants as event
+use Rattle.mz_events.specs.declared.event.Event.TheVariants as event
 use Rattle.mz_examples.specs.Examples.{profile_of, entry_of, large}
 use Rattle.mz_record.specs.Served as way
 use Rattle.mz_examples.specs.RunsServed.{request_by}
 use Rattle.mz_examples.specs.RunsServed.{on_five}
 use Rattle.mz_examples.proofs.ServedTests.{best_is_served, begins_at}
-use Rattle.mz_history.specs.State.{look_up, write}
+use Rattle.mz_events.specs.State.{look_up, write}
 use Rattle.mz_base.specs.Lists.{insert_by}
-use Rattle.mz_history.specs.Room.{best_fit}
-use Rattle.mz_history.specs.Effect.{write_all, after}
-use Rattle.mz_history.specs.Rules.{keeps}
-use Rattle.mz_history.specs.History.{after_all, by_ticket, first_breach}
+use Rattle.mz_events.specs.Room.{best_fit}
+use Rattle.mz_events.specs.Effect.{write_all, after}
+use Rattle.mz_events.specs.Rules.{keeps}
+use Rattle.mz_events.specs.History.{after_all, by_ticket, first_breach}
 use Rattle.mz_examples.proofs.runs.served.by_cache.Goals as goal
 
 pub returns-clause-row : goal.returns-clause-row

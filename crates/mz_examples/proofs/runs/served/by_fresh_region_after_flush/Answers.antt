@@ -1,19 +1,19 @@
 use Rattle.std.proofs.Common.{refl, ◌∷◌, Some, take, drop}
 use Rattle.std.proofs.lemmas.Bool.{false≢true}
 use Rattle.mz_base.specs.Space.{block_at}
-use Rattle.mz_history.specs.declared.event.Event.TheVariants as event
+use Rattle.mz_events.specs.declared.event.Event.TheVariants as event
 use Rattle.mz_examples.specs.Examples.{profile_of, entry_of, magazine, depot}
 use Rattle.mz_record.specs.Served as way
 use Rattle.mz_examples.specs.RunsServed.{request_by}
 use Rattle.mz_examples.proofs.MeetsTest.{meets}
 use Rattle.mz_examples.specs.RunsServed.{region_after_flush}
 use Rattle.mz_examples.proofs.ServedTests.{served_in_order}
-use Rattle.mz_history.specs.State.{look_up, write}
+use Rattle.mz_events.specs.State.{look_up, write}
 use Rattle.mz_base.specs.Lists.{insert_by}
-use Rattle.mz_history.specs.Room.{best_fit}
-use Rattle.mz_history.specs.Effect.{write_all, after}
-use Rattle.mz_history.specs.Rules.{keeps}
-use Rattle.mz_history.specs.History.{after_all, by_ticket, first_breach}
+use Rattle.mz_events.specs.Room.{best_fit}
+use Rattle.mz_events.specs.Effect.{write_all, after}
+use Rattle.mz_events.specs.Rules.{keeps}
+use Rattle.mz_events.specs.History.{after_all, by_ticket, first_breach}
 use Rattle.mz_examples.proofs.runs.served.by_fresh_region_after_flush.Goals as goal
 
 pub returns-clause-lawful : goal.returns-clause-lawful

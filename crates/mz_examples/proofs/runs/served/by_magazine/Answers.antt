@@ -1,7 +1,7 @@
 use Rattle.std.proofs.Common.{refl, [], ◌∷◌, Some, None}
 use Rattle.std.proofs.lemmas.Bool.{false≢true}
 use Rattle.mz_base.specs.Space.{block_at}
-use Rattle.mz_history.specs.declared.event.Event.TheVariants as event
+use Rattle.mz_events.specs.declared.event.Event.TheVariants as event
 use Rattle.mz_examples.specs.Examples.{profile_of, entry_of, magazine, last_freed_block}
 use Rattle.mz_examples.specs.Edges.{small_magazine}
 use Rattle.mz_record.specs.Served as way

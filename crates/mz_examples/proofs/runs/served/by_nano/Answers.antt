@@ -1,8 +1,8 @@
 use Rattle.std.proofs.Common.{arith, refl, [], ◌∷◌, Some}
 use Rattle.std.proofs.lemmas.Bool.{false≢true}
 use Rattle.mz_base.specs.Space.{block_at}
-use Rattle.mz_history.specs.declared.event.Event.TheVariants as event
-use Rattle.mz_history.specs.declared.place.Place.TheVariants as place
+use Rattle.mz_events.specs.declared.event.Event.TheVariants as event
+use Rattle.mz_events.specs.declared.place.Place.TheVariants as place
 use Rattle.mz_examples.specs.Examples.{profile_of, entry_of}
 use Rattle.mz_examples.specs.Rows.{two_nano_pages, LAST_PAGE, first_slot}
 use Rattle.mz_record.specs.Served as way

@@ -1,17 +1,17 @@
 use Rattle.std.proofs.Common.{refl, [], ◌∷◌, take, drop}
-use Rattle.mz_history.specs.declared.event.Event.TheVariants as event
+use Rattle.mz_events.specs.declared.event.Event.TheVariants as event
 use Rattle.mz_examples.specs.Examples.{profile_of, entry_of, large}
 use Rattle.mz_record.specs.Served as way
 use Rattle.mz_examples.specs.RunsServed.{request_by}
 use Rattle.mz_examples.proofs.MeetsTest.{meets}
 use Rattle.mz_examples.specs.RunsServed.{no_nine_pages}
 use Rattle.mz_examples.proofs.ServedTests.{null_is_settled}
-use Rattle.mz_history.specs.State.{look_up, write}
+use Rattle.mz_events.specs.State.{look_up, write}
 use Rattle.mz_base.specs.Lists.{insert_by}
-use Rattle.mz_history.specs.Room.{best_fit}
-use Rattle.mz_history.specs.Effect.{write_all, after}
-use Rattle.mz_history.specs.Rules.{keeps}
-use Rattle.mz_history.specs.History.{after_all, by_ticket, first_breach}
+use Rattle.mz_events.specs.Room.{best_fit}
+use Rattle.mz_events.specs.Effect.{write_all, after}
+use Rattle.mz_events.specs.Rules.{keeps}
+use Rattle.mz_events.specs.History.{after_all, by_ticket, first_breach}
 use Rattle.mz_examples.proofs.runs.served.null_in_large.Goals as goal
 
 pub returns-clause-lawful : goal.returns-clause-lawful

@@ -1,7 +1,7 @@
 use Rattle.std.proofs.Common.{refl, [], Some, take, drop}
 use Rattle.std.proofs.lemmas.Bool.{false≢true}
 use Rattle.mz_base.specs.Space.{block_at}
-use Rattle.mz_history.specs.declared.event.Event.TheVariants as event
+use Rattle.mz_events.specs.declared.event.Event.TheVariants as event
 use Rattle.mz_examples.specs.Examples.{profile_of, entry_of, large}
 use Rattle.mz_examples.specs.Edges.{small_block, one_cached}
 use Rattle.mz_record.specs.Served as way

@@ -1,17 +1,17 @@
 use Rattle.std.proofs.Common.{arith, refl, ◌++◌, [], ◌∷◌}
-use Rattle.mz_history.specs.declared.event.Event.TheVariants as event
+use Rattle.mz_events.specs.declared.event.Event.TheVariants as event
 use Rattle.mz_examples.specs.Examples.{entry_of}
-use Rattle.mz_history.specs.Places.{spot_of}
-use Rattle.mz_history.specs.declared.place.Place.TheVariants.{Pages}
+use Rattle.mz_events.specs.Places.{spot_of}
+use Rattle.mz_events.specs.declared.place.Place.TheVariants.{Pages}
 use Rattle.mz_examples.specs.Edges.{entry_of_other}
 use Rattle.mz_examples.specs.RunsServed.{two_callers_in_8_pages, both_full, dry_at, with_other, other_at_pages}
 use Rattle.mz_examples.proofs.UndisturbedTest.{undisturbed_by_test}
-use Rattle.mz_history.specs.State.{look_up, write}
+use Rattle.mz_events.specs.State.{look_up, write}
 use Rattle.mz_base.specs.Lists.{insert_by}
-use Rattle.mz_history.specs.Room.{best_fit}
-use Rattle.mz_history.specs.Effect.{write_all, after}
-use Rattle.mz_history.specs.Rules.{keeps}
-use Rattle.mz_history.specs.History.{after_all, by_ticket, first_breach}
+use Rattle.mz_events.specs.Room.{best_fit}
+use Rattle.mz_events.specs.Effect.{write_all, after}
+use Rattle.mz_events.specs.Rules.{keeps}
+use Rattle.mz_events.specs.History.{after_all, by_ticket, first_breach}
 use Rattle.mz_examples.proofs.runs.served.undisturbed_at_pages.Goals as goal
 
 pub returns-clause-before : goal.returns-clause-before

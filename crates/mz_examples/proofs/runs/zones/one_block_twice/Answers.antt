@@ -5,12 +5,12 @@ use Rattle.mz_examples.specs.Examples.{magazine}
 use Rattle.mz_examples.specs.Edges.{two_callers}
 use Rattle.mz_examples.specs.RunsZones.{made_by_other, one_after_the_other}
 use Rattle.mz_examples.proofs.RunTests.{serves}
-use Rattle.mz_history.specs.State.{look_up, write}
+use Rattle.mz_events.specs.State.{look_up, write}
 use Rattle.mz_base.specs.Lists.{insert_by}
-use Rattle.mz_history.specs.Room.{best_fit}
-use Rattle.mz_history.specs.Effect.{write_all, after}
-use Rattle.mz_history.specs.Rules.{keeps}
-use Rattle.mz_history.specs.History.{after_all, by_ticket, first_breach}
+use Rattle.mz_events.specs.Room.{best_fit}
+use Rattle.mz_events.specs.Effect.{write_all, after}
+use Rattle.mz_events.specs.Rules.{keeps}
+use Rattle.mz_events.specs.History.{after_all, by_ticket, first_breach}
 use Rattle.mz_examples.proofs.runs.zones.one_block_twice.Goals as goal
 
 pub returns-clause-lawful : goal.returns-clause-lawful

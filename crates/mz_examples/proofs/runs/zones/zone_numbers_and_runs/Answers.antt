@@ -1,18 +1,18 @@
 use Rattle.std.proofs.Common.{refl, [], ◌∷◌, take, drop}
 use Rattle.mz_record.specs.Served as way
 use Rattle.mz_fit.specs.Records.{entries_of}
-use Rattle.mz_history.specs.declared.event.Event.TheVariants as event
+use Rattle.mz_events.specs.declared.event.Event.TheVariants as event
 use Rattle.mz_examples.specs.Examples.{entry_of}
 use Rattle.mz_examples.specs.Rows.{second}
 use Rattle.mz_examples.specs.RunsZones.{two_zones_in_64, opened_as_2, destroyed, in_ascending_order, in_descending_order}
-use Rattle.mz_history.specs.declared.place.Place.TheVariants as place
+use Rattle.mz_events.specs.declared.place.Place.TheVariants as place
 use Rattle.mz_examples.proofs.RunTests.{serves}
-use Rattle.mz_history.specs.State.{look_up, write}
+use Rattle.mz_events.specs.State.{look_up, write}
 use Rattle.mz_base.specs.Lists.{insert_by}
-use Rattle.mz_history.specs.Room.{best_fit}
-use Rattle.mz_history.specs.Effect.{write_all, after}
-use Rattle.mz_history.specs.Rules.{keeps}
-use Rattle.mz_history.specs.History.{after_all, by_ticket, first_breach}
+use Rattle.mz_events.specs.Room.{best_fit}
+use Rattle.mz_events.specs.Effect.{write_all, after}
+use Rattle.mz_events.specs.Rules.{keeps}
+use Rattle.mz_events.specs.History.{after_all, by_ticket, first_breach}
 use Rattle.mz_record.specs.Listing.{by_address}
 use Rattle.mz_record.specs.Zones.{by_page}
 use Rattle.mz_fit.specs.Standing.{by_index}

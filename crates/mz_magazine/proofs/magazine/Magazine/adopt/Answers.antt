@@ -5,8 +5,8 @@ use Rattle.std.proofs.lemmas.Bool.{cases_Bool, cond-true, cond-false}
 use Rattle.mz_base.specs.declared.range.TheConstants.{PAGE}
 use Rattle.mz_base.specs.Space.{runs_apart}
 use Rattle.mz_base.specs.Lists.{add_block}
-use Rattle.mz_history.specs.Changes.{with_region}
-use Rattle.mz_history.specs.Standing.{RegionsKept}
+use Rattle.mz_events.specs.Changes.{with_region}
+use Rattle.mz_events.specs.Standing.{RegionsKept}
 use Rattle.mz_magazine.specs.Row.{RowView, with_region_at}
 use Rattle.mz_magazine.specs.Keeping.{run_from, keeping_of, IsIdleFreed}
 use Rattle.mz_magazine.proofs.Adopting.{none_at_run, insert_runs, idle_adopted}

@@ -4,12 +4,12 @@ use Rattle.std.proofs.lemmas.Bool.{false≢true}
 use Rattle.std.specs.Prelude.{IsTrue}
 use Rattle.std.specs.List.{list_all}
 use Rattle.mz_base.specs.Space.{blocks_apart}
-use Rattle.mz_history.specs.Changes.{still_freed, with_block}
+use Rattle.mz_events.specs.Changes.{still_freed, with_block}
 use Rattle.mz_magazine.proofs.Rooms.{power_some}
 use Rattle.mz_base.specs.Space.{block_at, block_end}
-use Rattle.mz_history.specs.Standing.{RegionsKept}
+use Rattle.mz_events.specs.Standing.{RegionsKept}
 use Rattle.mz_magazine.specs.Keeping.{keeping_of, freed_at, IsIdleFreed}
-use Rattle.mz_history.specs.Room.{wide}
+use Rattle.mz_events.specs.Room.{wide}
 use Rattle.mz_base.specs.Room.{any_has_room}
 use Rattle.mz_magazine.proofs.KeepingRuns.{lies_runs, room_runs}
 use Rattle.mz_magazine.proofs.KeepingFreed.{lost_freed, idle_made, made_view, idle_apart, front_aligned}
@@ -17,7 +17,7 @@ use Rattle.std.specs.List.{list_any}
 use Rattle.std.proofs.lemmas.Nat.{div-add-mod'}
 use Rattle.mz_base.specs.Space.{Block}
 use Rattle.mz_base.specs.Room.{lies_in}
-use Rattle.mz_history.specs.Placement.{is_placed_in_magazine, serves}
+use Rattle.mz_events.specs.Placement.{is_placed_in_magazine, serves}
 use Rattle.mz_magazine.specs.Row.{is_idle_in, has_room_at}
 use Rattle.mz_magazine.proofs.KeepingRuns.{front_runs}
 use Rattle.mz_magazine.proofs.KeepingFreed.{some_with, idle_lies, idle_has_room, placed_on_freed, placed_at_front, other_size, other_place}

@@ -1,10 +1,10 @@
 use Rattle.std.proofs.Common.{◌*◌, sym, ap, ◌∙◌}
-use Rattle.mz_history.specs.Standing.{RegionsKept}
+use Rattle.mz_events.specs.Standing.{RegionsKept}
 use Rattle.mz_magazine.proofs.KeepingRuns.{lowest_empty}
 use Rattle.std.specs.Prelude.{find}
 use Rattle.std.specs.Option.{option_map}
 use Rattle.mz_base.specs.declared.range.TheConstants.{PAGE}
-use Rattle.mz_history.specs.Duties.{is_unused}
+use Rattle.mz_events.specs.Duties.{is_unused}
 use Rattle.mz_magazine.proofs.magazine.Magazine.empty.Goals as goal
 
 pub returns : goal.returns

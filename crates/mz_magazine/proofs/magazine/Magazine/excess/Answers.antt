@@ -3,9 +3,9 @@ use Rattle.std.proofs.lemmas.List.{nil_from_length}
 use Rattle.std.proofs.lemmas.Bool.{le-ltb}
 use Rattle.std.specs.Prelude.{nat_lt}
 use Rattle.mz_base.specs.Lists.{size_sum}
-use Rattle.mz_history.specs.Standing.{RegionsKept}
+use Rattle.mz_events.specs.Standing.{RegionsKept}
 use Rattle.mz_magazine.specs.Keeping.{run_from, keeping_of}
-use Rattle.mz_history.specs.Duties.{is_in_excess}
+use Rattle.mz_events.specs.Duties.{is_in_excess}
 use Rattle.mz_magazine.proofs.KeepingRuns.{excess_runs, excess_none, excess_true, excess_false}
 use Rattle.mz_magazine.proofs.magazine.Magazine.excess.Goals as goal
 

@@ -1,5 +1,5 @@
 use Rattle.std.proofs.Common.{◌*◌, sym, ap, ◌∙◌}
-use Rattle.mz_history.specs.Standing.{RegionsKept}
+use Rattle.mz_events.specs.Standing.{RegionsKept}
 use Rattle.mz_magazine.proofs.KeepingRuns.{lowest_room}
 use Rattle.std.specs.Prelude.{find}
 use Rattle.std.specs.Option.{option_map}

@@ -1,10 +1,10 @@
 use Rattle.std.proofs.Common.{◌≡◌, Some, None, length, sym, ap, ◌∙◌, subst}
 use Rattle.std.specs.Prelude.{IsTrue, if◌then◌else◌}
-use Rattle.mz_history.specs.Places.{is_magazine, is_depot}
-use Rattle.mz_history.specs.Changes.{without_block}
+use Rattle.mz_events.specs.Places.{is_magazine, is_depot}
+use Rattle.mz_events.specs.Changes.{without_block}
 use Rattle.mz_base.specs.Lists.{has_block}
 use Rattle.mz_base.specs.Space.{block_at}
-use Rattle.mz_history.specs.Standing.{RegionsKept}
+use Rattle.mz_events.specs.Standing.{RegionsKept}
 use Rattle.mz_magazine.proofs.KeepingFreed.{freed_view}
 use Rattle.mz_magazine.proofs.magazine.Magazine.free.Goals as goal
 

@@ -1,5 +1,5 @@
 use Rattle.std.proofs.Common.{◌+◌, sym, ap, ◌∙◌}
-use Rattle.mz_history.specs.Standing.{RegionsKept}
+use Rattle.mz_events.specs.Standing.{RegionsKept}
 use Rattle.mz_magazine.proofs.KeepingRuns.{lies_runs}
 use Rattle.std.specs.List.{list_any}
 use Rattle.mz_base.specs.Room.{lies_in}

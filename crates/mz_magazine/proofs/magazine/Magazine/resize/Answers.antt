@@ -2,9 +2,9 @@ use Rattle.std.proofs.Common.{◌≡◌, ◌*◌, length, sym, ap, ◌∙◌, ar
 use Rattle.std.specs.Prelude.{◌==◌, ◌&&◌, ◌||◌}
 use Rattle.std.specs.List.{list_any, list_all}
 use Rattle.mz_base.specs.Space.{blocks_apart}
-use Rattle.mz_history.specs.Changes.{still_freed}
+use Rattle.mz_events.specs.Changes.{still_freed}
 use Rattle.mz_base.specs.Space.{block_at, block_end}
-use Rattle.mz_history.specs.Standing.{RegionsKept}
+use Rattle.mz_events.specs.Standing.{RegionsKept}
 use Rattle.mz_magazine.proofs.Regions.{said_true}
 use Rattle.mz_magazine.specs.Keeping.{freed_at}
 use Rattle.mz_base.specs.Room.{lies_in}

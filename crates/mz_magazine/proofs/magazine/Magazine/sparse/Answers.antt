@@ -1,10 +1,10 @@
 use Rattle.std.proofs.Common.{◌*◌, sym, ap, ◌∙◌}
-use Rattle.mz_history.specs.Standing.{RegionsKept}
+use Rattle.mz_events.specs.Standing.{RegionsKept}
 use Rattle.mz_magazine.proofs.KeepingRuns.{lowest_sparse_run}
 use Rattle.std.specs.Prelude.{find}
 use Rattle.std.specs.Option.{option_map}
 use Rattle.mz_base.specs.declared.range.TheConstants.{PAGE}
-use Rattle.mz_history.specs.Duties.{is_sparse}
+use Rattle.mz_events.specs.Duties.{is_sparse}
 use Rattle.mz_magazine.proofs.magazine.Magazine.sparse.Goals as goal
 
 pub returns : goal.returns

@@ -1,13 +1,13 @@
 use Rattle.std.proofs.Common.{◌≡◌, ℕ, ◌*◌, ◌/◌, ◌%◌, Bool, None, length, map, sym, ap, ◌∙◌}
 use Rattle.std.proofs.lemmas.List.{length-map}
 use Rattle.mz_base.specs.Space.{block_at, block_end}
-use Rattle.mz_history.specs.Standing.{RegionsKept}
+use Rattle.mz_events.specs.Standing.{RegionsKept}
 use Rattle.mz_magazine.specs.Row.{RowView}
 use Rattle.mz_magazine.specs.Keeping.{run_from, keeping_of}
 use Rattle.std.specs.Prelude.{◌==◌, not, filter, if◌then◌else◌}
 use Rattle.mz_base.specs.Space.{blocks_apart, bytes_of, same_run}
 use Rattle.mz_base.specs.Lists.{has_run, blocks_in, drop_run}
-use Rattle.mz_history.specs.Changes.{without_run}
+use Rattle.mz_events.specs.Changes.{without_run}
 use Rattle.mz_base.specs.Room.{lies_within}
 use Rattle.mz_magazine.proofs.Idle.{among}
 use Rattle.std.proofs.lemmas.Bool.{eqb-true}
@@ -17,7 +17,7 @@ use Rattle.std.proofs.lemmas.List.Elements.{All-weaker}
 use Rattle.mz_base.specs.Space.{Run}
 use Rattle.mz_base.specs.declared.range.TheConstants.{PAGE}
 use Rattle.mz_magazine.proofs.KeepingRuns.{any_runs, pages_of, AlignedAt, same_runs, filter_runs, at_run}
-use Rattle.mz_history.specs.Changes.{still_freed}
+use Rattle.mz_events.specs.Changes.{still_freed}
 use Rattle.mz_magazine.specs.Keeping.{freed_at}
 use Rattle.mz_magazine.proofs.KeepingFreed.{idle_without}
 use Rattle.mz_magazine.proofs.magazine.Magazine.yield_region.Goals as goal

@@ -9,7 +9,7 @@ use Rattle.mz_magazine.specs.Row.{RowView}
 use Rattle.mz_magazine.specs.Members.{row_of, space_of, IsKept}
 use Rattle.mz_magazine.proofs.Order.{first_of}
 use Rattle.mz_magazine.specs.Row.{with_region_at}
-use Rattle.mz_history.specs.Standing.{IsOf}
+use Rattle.mz_events.specs.Standing.{IsOf}
 use Rattle.mz_magazine.proofs.Regions.{space_is, Inserted, inserted, none_there, below_strictly, above_all, one_there}
 use Rattle.mz_magazine.proofs.row.Row.insert.Goals as goal
 use Rattle.mz_magazine.proofs.row.Row.insert.Goals.{else-i-gt0-via-then-i-gt0+else-first, else-i-gt0-via-else-i-gt0}

@@ -1,5 +1,5 @@
-use Rattle.mz_history.specs.State.{opening}
-use Rattle.mz_history.specs.History.{after_all}
+use Rattle.mz_events.specs.State.{opening}
+use Rattle.mz_events.specs.History.{after_all}
 use Rattle.mz_register.proofs.WordLemmas.{words_idle}
 use Rattle.mz_register.proofs.plain.PlainBook.act_as.Goals as goal
 

@@ -1,6 +1,6 @@
 use Rattle.std.proofs.Common.{List, arith, sym, ap, subst}
-use Rattle.mz_history.specs.State.{opening}
-use Rattle.mz_history.specs.History.{after_all}
+use Rattle.mz_events.specs.State.{opening}
+use Rattle.mz_events.specs.History.{after_all}
 use Rattle.mz_register.specs.declared.pair.Pair.{Pair}
 use Rattle.mz_register.specs.Account.{Account}
 use Rattle.mz_register.specs.Rule.{AreInOneHand}

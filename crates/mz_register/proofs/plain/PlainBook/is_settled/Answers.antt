@@ -1,6 +1,6 @@
 use Rattle.std.proofs.Common.{◌≡◌, ◌<◌, ℕ, true, ap, is_none}
-use Rattle.mz_history.specs.State.{opening, value_at}
-use Rattle.mz_history.specs.History.{after_all}
+use Rattle.mz_events.specs.State.{opening, value_at}
+use Rattle.mz_events.specs.History.{after_all}
 use Rattle.mz_register.specs.Keepers.{keeper_count, keeper_spot, is_among}
 use Rattle.mz_register.proofs.DutyLemmas.{all_calm}
 use Rattle.mz_register.proofs.plain.PlainBook.is_settled.Goals as goal

@@ -1,6 +1,6 @@
 use Rattle.std.specs.Prelude.{length}
-use Rattle.mz_history.specs.State.{opening}
-use Rattle.mz_history.specs.History.{after_all}
+use Rattle.mz_events.specs.State.{opening}
+use Rattle.mz_events.specs.History.{after_all}
 use Rattle.mz_register.specs.Plain.{few_entries}
 use Rattle.mz_register.proofs.NanoLemmas.{word_of_light}
 use Rattle.mz_register.proofs.plain.PlainBook.keeps_rule.Goals as goal

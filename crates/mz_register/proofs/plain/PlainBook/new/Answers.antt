@@ -3,10 +3,10 @@ use Rattle.std.specs.Prelude.{map, replicate, nat_le}
 use Rattle.std.specs.List.{list_all}
 use Rattle.std.proofs.lemmas.List.{length-map}
 use Rattle.mz_base.specs.Site.{Site}
-use Rattle.mz_history.specs.declared.entry.Entry.{Entry}
-use Rattle.mz_history.specs.State.{State, opening}
-use Rattle.mz_history.specs.History.{after_all}
-use Rattle.mz_history.specs.Hands.{own}
+use Rattle.mz_events.specs.declared.entry.Entry.{Entry}
+use Rattle.mz_events.specs.State.{State, opening}
+use Rattle.mz_events.specs.History.{after_all}
+use Rattle.mz_events.specs.Hands.{own}
 use Rattle.mz_register.specs.declared.light.Light.{Light}
 use Rattle.mz_register.specs.declared.pair.Pair.{Pair}
 use Rattle.mz_register.specs.Lights.{lights_from}

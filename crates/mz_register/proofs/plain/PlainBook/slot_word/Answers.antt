@@ -1,6 +1,6 @@
 use Rattle.std.proofs.Common.{◌≡◌, ◌<◌, ◌+◌, ◌*◌, length, get_or, arith, ap, sym, ◌∙◌}
-use Rattle.mz_history.specs.State.{opening}
-use Rattle.mz_history.specs.History.{after_all}
+use Rattle.mz_events.specs.State.{opening}
+use Rattle.mz_events.specs.History.{after_all}
 use Rattle.mz_register.proofs.HomeLemmas.{get_or_any}
 use Rattle.mz_register.proofs.WordLemmas.{word_told}
 use Rattle.mz_register.proofs.plain.PlainBook.slot_word.Goals as goal

@@ -1,9 +1,9 @@
 use Rattle.std.proofs.Common.{◌≡◌, ◌<◌, [], ℕ, Some, None, List, ◌∷◌, ◌++◌, get_or, length-set, arith, sym, ap, ◌∙◌, refl, subst, append-nil}
 use Rattle.std.proofs.lemmas.List.Elements.{All-nil}
-use Rattle.mz_history.specs.State.{opening}
-use Rattle.mz_history.specs.History.{after_all}
-use Rattle.mz_history.specs.declared.entry.Entry.{Entry}
-use Rattle.mz_history.specs.Holding.{IsAway}
+use Rattle.mz_events.specs.State.{opening}
+use Rattle.mz_events.specs.History.{after_all}
+use Rattle.mz_events.specs.declared.entry.Entry.{Entry}
+use Rattle.mz_events.specs.Holding.{IsAway}
 use Rattle.mz_register.specs.Keepers.{keeper_count, is_held}
 use Rattle.mz_register.specs.Account.{Account}
 use Rattle.mz_register.specs.Plain.{plain_account, site_of}

@@ -1,9 +1,9 @@
 use Rattle.std.proofs.Common.{◌≡◌, ◌<◌, ◌+◌, ◌*◌, length, ℕ, Some, false, cond, List, get_or, set, length-set, arith, sym, ap, ◌∙◌, refl, subst}
 use Rattle.std.specs.Prelude.{nat_lt}
 use Rattle.std.proofs.lemmas.Bool.Decides.{nat_tests}
-use Rattle.mz_history.specs.State.{opening}
-use Rattle.mz_history.specs.History.{after_all}
-use Rattle.mz_history.specs.Changes.{one_for}
+use Rattle.mz_events.specs.State.{opening}
+use Rattle.mz_events.specs.History.{after_all}
+use Rattle.mz_events.specs.Changes.{one_for}
 use Rattle.mz_register.specs.declared.light.Light.{Light}
 use Rattle.mz_register.specs.declared.light.Asked.TheVariants.{HoldLight}
 use Rattle.mz_register.specs.Lights.{light_at, add_light, lights_from, is_slot_live}

@@ -1,11 +1,11 @@
 use Rattle.std.proofs.Common.{◌≡◌, ◌<◌, ◌-◌, [], length, ℕ, false, List, ◌∷◌, ◌++◌, arith, sym, ap, ◌∙◌, refl, subst, append-nil, length-append}
 use Rattle.std.proofs.lemmas.List.Elements.{All-nil}
-use Rattle.mz_history.specs.State.{State, opening, value_at, is_open}
-use Rattle.mz_history.specs.History.{AreLawful, after_all}
-use Rattle.mz_history.specs.Effect.{after}
-use Rattle.mz_history.specs.Hands.{own}
-use Rattle.mz_history.specs.Holding.{IsAway}
-use Rattle.mz_history.specs.declared.entry.Entry.{Entry}
+use Rattle.mz_events.specs.State.{State, opening, value_at, is_open}
+use Rattle.mz_events.specs.History.{AreLawful, after_all}
+use Rattle.mz_events.specs.Effect.{after}
+use Rattle.mz_events.specs.Hands.{own}
+use Rattle.mz_events.specs.Holding.{IsAway}
+use Rattle.mz_events.specs.declared.entry.Entry.{Entry}
 use Rattle.mz_register.specs.Keepers.{keeper_count, keeper_spot, is_among, is_held}
 use Rattle.mz_register.specs.declared.pair.Pair.{Pair}
 use Rattle.mz_register.specs.Pairs.{pairs_after}

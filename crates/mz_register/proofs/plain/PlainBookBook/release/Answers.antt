@@ -1,6 +1,6 @@
 use Rattle.std.proofs.Common.{◌≡◌, ◌<◌, ℕ, Some, None, is_none, List, get_or, length-set, arith, sym, ap, ◌∙◌, subst}
-use Rattle.mz_history.specs.State.{opening}
-use Rattle.mz_history.specs.History.{after_all}
+use Rattle.mz_events.specs.State.{opening}
+use Rattle.mz_events.specs.History.{after_all}
 use Rattle.mz_register.specs.Keepers.{keeper_count}
 use Rattle.mz_register.specs.Account.{Account}
 use Rattle.mz_register.specs.Plain.{plain_account, site_of}

@@ -1,8 +1,8 @@
 use Rattle.std.proofs.Common.{◌≡◌, ◌<◌, ◌+◌, ◌*◌, length, true, List, set, length-set, arith, sym, ap, ◌∙◌, subst}
 use Rattle.std.specs.Prelude.{nat_lt}
-use Rattle.mz_history.specs.State.{opening}
-use Rattle.mz_history.specs.History.{after_all}
-use Rattle.mz_history.specs.Changes.{one_for}
+use Rattle.mz_events.specs.State.{opening}
+use Rattle.mz_events.specs.History.{after_all}
+use Rattle.mz_events.specs.Changes.{one_for}
 use Rattle.mz_register.specs.declared.light.Light.{Light}
 use Rattle.mz_register.specs.Pairs.{hand_in}
 use Rattle.mz_register.specs.Lights.{lights_from, is_slot_live, has_slot}

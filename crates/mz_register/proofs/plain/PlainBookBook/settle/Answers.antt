@@ -1,7 +1,7 @@
 use Rattle.std.proofs.Common.{◌≡◌, ◌<◌, length, ℕ, Some, get_or, length-set, arith, sym, ap, ◌∙◌, refl, subst, inl, inr}
 use Rattle.std.specs.Prelude.{◌⊎◌}
-use Rattle.mz_history.specs.State.{opening}
-use Rattle.mz_history.specs.History.{after_all}
+use Rattle.mz_events.specs.State.{opening}
+use Rattle.mz_events.specs.History.{after_all}
 use Rattle.mz_register.specs.declared.light.Asked.TheVariants.{Settle}
 use Rattle.mz_register.specs.Account.{Account}
 use Rattle.mz_register.specs.Plain.{plain_account, site_of}

@@ -1,7 +1,0 @@
-use Rattle.std.proofs.Common.{refl}
-use Rattle.mz_history.specs.Effect.{after}
-use Rattle.mz_history.proofs.laws.entries.greatest_after_an_event.Goals as goal
-
-pub returns : goal.returns
-unfolding after
-returns c p s d e = refl

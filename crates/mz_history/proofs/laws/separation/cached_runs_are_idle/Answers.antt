@@ -1,5 +1,0 @@
-use Rattle.mz_history.proofs.FormLemmas.{cached_after}
-use Rattle.mz_history.proofs.laws.separation.cached_runs_are_idle.Goals as goal
-
-pub returns : goal.returns
-returns c = cached_after

@@ -1,5 +1,0 @@
-use Rattle.mz_history.proofs.Depots.{all_used}
-use Rattle.mz_history.proofs.laws.separation.depots_hold_no_unused_region.Goals as goal
-
-pub returns : goal.returns
-returns c = all_used

@@ -1,8 +1,0 @@
-use Rattle.mz_history.proofs.Cached.{few_cached, ever_cached}
-use Rattle.mz_history.proofs.laws.separation.few_are_cached.Goals as goal
-
-pub returns-clause-calm : goal.returns-clause-calm
-returns-clause-calm c = few_cached
-
-pub returns-clause-ever : goal.returns-clause-ever
-returns-clause-ever c = ever_cached

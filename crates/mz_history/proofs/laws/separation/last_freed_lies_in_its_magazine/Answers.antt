@@ -1,5 +1,0 @@
-use Rattle.mz_history.proofs.Separation.{freed_after}
-use Rattle.mz_history.proofs.laws.separation.last_freed_lies_in_its_magazine.Goals as goal
-
-pub returns : goal.returns
-returns c = freed_after

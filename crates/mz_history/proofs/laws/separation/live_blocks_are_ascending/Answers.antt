@@ -1,5 +1,0 @@
-use Rattle.mz_history.proofs.Separation.{ascending_after}
-use Rattle.mz_history.proofs.laws.separation.live_blocks_are_ascending.Goals as goal
-
-pub returns : goal.returns
-returns c = ascending_after

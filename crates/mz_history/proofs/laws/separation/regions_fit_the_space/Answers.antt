@@ -1,5 +1,0 @@
-use Rattle.mz_history.proofs.BoundLemmas.{regions_fit}
-use Rattle.mz_history.proofs.laws.separation.regions_fit_the_space.Goals as goal
-
-pub returns : goal.returns
-returns c = regions_fit

@@ -1,5 +1,0 @@
-use Rattle.mz_history.proofs.SamenessLemmas.{by_spot}
-use Rattle.mz_history.proofs.laws.states.lists_are_by_spot.Goals as goal
-
-pub returns : goal.returns
-returns c = by_spot

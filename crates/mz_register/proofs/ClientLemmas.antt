@@ -134,8 +134,8 @@ module _ (L : HistoryLaws) (s s1 s2 u v : Account) (k l m n : ℕ) (d e : Event)
               let g2 = grows_note L u v e n (may.second s2 u m taken n1) may.no_zone_either n2 in
               let j = grows_joined s2 u v (entry_at m s2.caller d ∷ []) (entry_at n u.caller e ∷ []) 0 0 g1 g2 in
               let all = grows_joined s s2 v [] (entry_at m s2.caller d ∷ entry_at n u.caller e ∷ []) 2 0 taken.grows j in
-              let c2 : s2.caller ≡ s.caller = taken.grows.grows.same.caller in
-              let c3 : u.caller ≡ s.caller = g1.grows.same.caller ∙ c2 in
+              let c2 : s2.caller ≡ s.caller = taken.grows.grows.adds.same.caller in
+              let c3 : u.caller ≡ s.caller = g1.grows.adds.same.caller ∙ c2 in
               let own : GrowsHolding s (entry_at m s.caller d ∷ entry_at n s.caller e ∷ []) 2 v =
               subst (λ i. GrowsHolding s (entry_at m s.caller d ∷ entry_at n i e ∷ []) 2 v) c3 (subst (λ i. GrowsHolding s (entry_at m i d ∷ entry_at n u.caller e ∷ []) 2 v) c2 all) in
               grows_release s r z (entry_at m s.caller d ∷ entry_at n s.caller e ∷ []) 2 k (grows_release s v r (entry_at m s.caller d ∷ entry_at n s.caller e ∷ []) 2 l own.grows r1) r2

@@ -1,5 +1,5 @@
 -- What several calls of a book add up to.
-use Rattle.std.proofs.Common.{◌≡◌, ℕ, ◌+◌, ◌==◌, Bool, true, false, cond, not, List, [], ◌∷◌, ◌++◌, length, refl, ap, sym, subst, ◌∙◌, arith, append-nil, append_assoc, length-append, eq-eqb, ne_eqb, inl, inr}
+use Rattle.std.proofs.Common.{◌≡◌, ℕ, ◌+◌, ◌==◌, Bool, true, false, cond, not, List, [], ◌∷◌, ◌++◌, length, refl, ap, sym, subst, ◌∙◌, ◌≤◌, arith, append-nil, append_assoc, length-append, eq-eqb, ne_eqb, inl, inr}
 use Rattle.std.specs.Prelude.{◌&&◌, ◌||◌}
 use Rattle.std.proofs.lemmas.Bool.{and_parts, and_from, false≢true, cases_Bool}
 use Rattle.std.proofs.lemmas.List.Elements.{All-head, All-tail}
@@ -17,9 +17,9 @@ use Rattle.mz_register.specs.declared.pair.Pair.{Pair}
 use Rattle.mz_register.specs.HistoryLaws.{HistoryLaws}
 use Rattle.mz_register.specs.Keepers.{is_held, is_among, keeper_of}
 use Rattle.mz_register.specs.Pairs.{pairs_after}
-use Rattle.mz_register.specs.Account.{Account, state_of, holds_spot, entry_at}
-use Rattle.mz_register.specs.Calls.{Holds, CanNote, CanNoteAtNano, Notes, Releases, is_at_nano, opened_after}
-use Rattle.mz_register.specs.Growth.{pairs_through, is_own_touch, has_begun, is_undisturbed, IsSame, Grows, GrowsHolding}
+use Rattle.mz_register.specs.Account.{Account, state_of, holds_spot, entry_at, one_more}
+use Rattle.mz_register.specs.Calls.{Gains, Holds, CanNote, CanNoteAtNano, Notes, Releases, is_at_nano, opened_after}
+use Rattle.mz_register.specs.Growth.{pairs_through, is_own_touch, has_begun, is_undisturbed, IsSame, Adds, Grows, GrowsHolding}
 use Rattle.mz_register.proofs.ListLemmas.{or_elim, or_left}
 use Rattle.mz_register.proofs.HeldLemmas.{or_none, among_snoc}
 use Rattle.mz_register.proofs.PlainLemmas.{nano_is}
@@ -154,16 +154,18 @@ same_self s = record { profile = refl; caller = refl; site = refl; between = ref
 pub grows_nothing : (s : Account) → GrowsHolding s [] 0 s
 grows_nothing s = record {
   grows = record {
-    more = [];
-    same = same_self s;
-    seen = sym (append-nil s.seen);
-    own_is = refl;
-    alone = λ y. refl;
-    noted = sym (append-nil s.noted);
-    pairs = refl;
-    spare = omega arith;
-    holds = omega arith;
-    zones = λ z. refl;
+    adds = record {
+      more = [];
+      same = same_self s;
+      seen = sym (append-nil s.seen);
+      own_is = refl;
+      alone = λ y. refl;
+      noted = sym (append-nil s.noted);
+      pairs = refl;
+      spare = omega arith;
+      holds = omega arith;
+      zones = λ z. refl;
+    };
     undisturbed = λ q. none_undisturbed s.profile s.caller (keeper_at q) (holds_spot s (keeper_at q));
   };
   still = λ q y. sym (none_begun s.profile s.caller (keeper_at q) (holds_spot s (keeper_at q))) ∙ y;
@@ -172,26 +174,34 @@ grows_nothing s = record {
 held_more : (p : Profile) (held : List ℕ) (k : ℕ) (q : Place) → is_held p held (keeper_at q) ≡ true → is_held p (held ++ k ∷ []) (keeper_at q) ≡ true
 held_more p held k q h = among_snoc (keeper_of p q) k held ∙ or_left (is_among held (keeper_of p q)) (k == keeper_of p q) h
 
-pub grows_hold : (L : HistoryLaws) (s t : Account) (k : ℕ) → Holds s k t → GrowsHolding s [] 1 t
-grows_hold L s t k h =
+pub grows_gain : (L : HistoryLaws) (s t : Account) (k n m : ℕ) → n ≤ s.holds + m → Gains s k n t → GrowsHolding s [] m t
+grows_gain L s t k n m few h =
     let holds = ap (λ (u : Account). u.holds) h.after in
     record {
       grows = record {
-        more = h.others;
-        same = same_by s t _ _ _ _ _ _ h.after;
-        seen = ap (λ (u : Account). u.seen) h.after;
-        own_is = (L.known_through s.profile s.caller (holds_spot s) (state_of s) h.others h.away).none_own;
-        alone = h.alone;
-        noted = ap (λ (u : Account). u.noted) h.after ∙ sym (append-nil s.noted);
-        pairs = ap (λ (u : Account). u.pairs) h.after;
-        spare = ap (λ (u : Account). u.spare) h.after ∙ omega arith;
-        holds = omega arith;
-        zones = h.zones;
+        adds = record {
+          more = h.others;
+          same = same_by s t _ _ _ _ _ _ h.after;
+          seen = ap (λ (u : Account). u.seen) h.after;
+          own_is = (L.known_through s.profile s.caller (holds_spot s) (state_of s) h.others h.away).none_own;
+          alone = h.alone;
+          noted = ap (λ (u : Account). u.noted) h.after ∙ sym (append-nil s.noted);
+          pairs = ap (λ (u : Account). u.pairs) h.after;
+          spare = ap (λ (u : Account). u.spare) h.after ∙ omega arith;
+          holds = omega arith;
+          zones = h.zones;
+        };
         undisturbed = λ q. away_undisturbed s.profile s.caller (keeper_at q) (holds_spot s) (holds_spot s (keeper_at q)) h.others (λ y. y) h.away;
       };
       still = λ q y. subst (λ (u : Account). is_held s.profile u.held (keeper_at q) ≡ true) (sym h.after)
           (held_more s.profile s.held k q (sym (away_begun s.profile s.caller (keeper_at q) (holds_spot s) (holds_spot s (keeper_at q)) h.others h.away) ∙ y));
     }
+
+pub grows_hold : (L : HistoryLaws) (s t : Account) (k : ℕ) → Holds s k t → GrowsHolding s [] 1 t
+grows_hold L s t k h = grows_gain L s t k (one_more s.holds) 1 (omega arith) h
+
+pub grows_tried : (L : HistoryLaws) (s t : Account) (k : ℕ) → Gains s k s.holds t → GrowsHolding s [] 0 t
+grows_tried L s t k h = grows_gain L s t k s.holds 0 (omega arith) h
 
 -- what a note touches of the places that have a keeper is held
 
@@ -237,27 +247,29 @@ grows_note L s t e n can z h =
     begun_joined p c (keeper_at q) (b q) h.others (x ∷ []) ∙ (ap (λ d. has_begun p c (keeper_at q) d (x ∷ [])) (away_begun p c (keeper_at q) (holds_spot s) (b q) h.others h.away) ∙ own_begun p c (keeper_at q) (b q) x refl) in
     record {
       grows = record {
-        more = h.others ++ x ∷ [];
-        same = same_by s t _ _ _ _ _ _ h.after;
-        seen = ap (λ (u : Account). u.seen) h.after ∙ append_assoc s.seen h.others (x ∷ []);
-        own_is = own_joined c h.others (x ∷ []) ∙ (ap (λ es. es ++ own c (x ∷ [])) ((L.known_through p c (holds_spot s) (state_of s) h.others h.away).none_own) ∙ own_one c x refl);
-        alone = λ y. ap (λ es. es ++ x ∷ []) (h.alone y);
-        noted = ap (λ (u : Account). u.noted) h.after;
-        pairs = ap (λ (u : Account). u.pairs) h.after;
-        spare = ap (λ (u : Account). u.spare) h.after;
-        holds = let o = ap (λ (u : Account). u.holds) h.after in omega arith;
-        zones = λ y. h.zones y ∙ zones_stay e y (is_open (state_of s) y) z;
+        adds = record {
+          more = h.others ++ x ∷ [];
+          same = same_by s t _ _ _ _ _ _ h.after;
+          seen = ap (λ (u : Account). u.seen) h.after ∙ append_assoc s.seen h.others (x ∷ []);
+          own_is = own_joined c h.others (x ∷ []) ∙ (ap (λ es. es ++ own c (x ∷ [])) ((L.known_through p c (holds_spot s) (state_of s) h.others h.away).none_own) ∙ own_one c x refl);
+          alone = λ y. ap (λ es. es ++ x ∷ []) (h.alone y);
+          noted = ap (λ (u : Account). u.noted) h.after;
+          pairs = ap (λ (u : Account). u.pairs) h.after;
+          spare = ap (λ (u : Account). u.spare) h.after;
+          holds = let o = ap (λ (u : Account). u.holds) h.after in omega arith;
+          zones = λ y. h.zones y ∙ zones_stay e y (is_open (state_of s) y) z;
+        };
         undisturbed = λ q. undisturbed_joined p c (keeper_at q) (b q) h.others (x ∷ [])
             ∙ and_from _ _ (away_undisturbed p c (keeper_at q) (holds_spot s) (b q) h.others (λ y. y) h.away) (own_undisturbed p c (keeper_at q) (has_begun p c (keeper_at q) (b q) h.others) x refl);
       };
       still = λ q y. ap (λ (u : Account). is_held p u.held (keeper_at q)) h.after ∙ or_elim (b q) (touches p e (keeper_at q)) (λ f. f) (λ f. touched_held L s e q can f) (sym (begun q) ∙ y);
     }
 
-pub grows_ended : (s t u : Account) (xs ys : List Entry) (m n : ℕ) → GrowsHolding s xs m t → Grows t ys n u → Grows s (xs ++ ys) (m + n) u
-grows_ended s t u xs ys m n a b =
-    let g = a.grows in
+-- both, one behind the other
+
+pub adds_joined : (s t u : Account) (xs ys : List Entry) (m n : ℕ) → Adds s xs m t → Adds t ys n u → Adds s (xs ++ ys) (m + n) u
+adds_joined s t u xs ys m n g b =
     let c = g.same.caller in
-    let p = g.same.profile in
     record {
       more = g.more ++ b.more;
       same = same_joined s t u g.same b.same;
@@ -269,52 +281,67 @@ grows_ended s t u xs ys m n a b =
       spare = let l = length-append xs ys in let e = b.spare in let f = g.spare in omega arith;
       holds = let e = b.holds in let f = g.holds in omega arith;
       zones = λ z. b.zones z ∙ g.zones z;
+    }
+
+pub grows_ended : (s t u : Account) (xs ys : List Entry) (m n : ℕ) → GrowsHolding s xs m t → Grows t ys n u → Grows s (xs ++ ys) (m + n) u
+unfolding adds_joined
+grows_ended s t u xs ys m n a b =
+    let g = a.grows.adds in
+    let c = g.same.caller in
+    let p = g.same.profile in
+    record {
+      adds = adds_joined s t u xs ys m n g b.adds;
       undisturbed = λ q.
           let j = keeper_at q in
           let start = holds_spot s j in
-          let later : is_undisturbed s.profile s.caller j (is_held s.profile t.held j) b.more ≡ true =
-          subst (λ (r : Profile). is_undisturbed r s.caller j (is_held r t.held j) b.more ≡ true) p (subst (λ i. is_undisturbed t.profile i j (is_held t.profile t.held j) b.more ≡ true) c (b.undisturbed q)) in
-          undisturbed_joined s.profile s.caller j start g.more b.more ∙ and_from _ _ (g.undisturbed q) (undisturbed_less s.profile s.caller j (has_begun s.profile s.caller j start g.more) (is_held s.profile t.held j) b.more (a.still q) later);
+          let later : is_undisturbed s.profile s.caller j (is_held s.profile t.held j) b.adds.more ≡ true =
+          subst (λ (r : Profile). is_undisturbed r s.caller j (is_held r t.held j) b.adds.more ≡ true) p (subst (λ i. is_undisturbed t.profile i j (is_held t.profile t.held j) b.adds.more ≡ true) c (b.undisturbed q)) in
+          undisturbed_joined s.profile s.caller j start g.more b.adds.more ∙ and_from _ _ (a.grows.undisturbed q) (undisturbed_less s.profile s.caller j (has_begun s.profile s.caller j start g.more) (is_held s.profile t.held j) b.adds.more (a.still q) later);
     }
 
 pub grows_joined : (s t u : Account) (xs ys : List Entry) (m n : ℕ) → GrowsHolding s xs m t → GrowsHolding t ys n u → GrowsHolding s (xs ++ ys) (m + n) u
-unfolding grows_ended
+unfolding adds_joined grows_ended
 grows_joined s t u xs ys m n a b =
-    let g = a.grows in
+    let g = a.grows.adds in
+    let more = b.grows.adds.more in
     record {
       grows = grows_ended s t u xs ys m n a b.grows;
       still = λ q y.
           let j = keeper_at q in
           let start = holds_spot s j in
-          let later : has_begun s.profile s.caller j (is_held s.profile t.held j) b.grows.more ≡ true = begun_less s.profile s.caller j (has_begun s.profile s.caller j start g.more) (is_held s.profile t.held j) b.grows.more (a.still q) (sym (begun_joined s.profile s.caller j start g.more b.grows.more) ∙ y) in
+          let later : has_begun s.profile s.caller j (is_held s.profile t.held j) more ≡ true = begun_less s.profile s.caller j (has_begun s.profile s.caller j start g.more) (is_held s.profile t.held j) more (a.still q) (sym (begun_joined s.profile s.caller j start g.more more) ∙ y) in
           let c = g.same.caller in
           let p = g.same.profile in
-          let there : has_begun t.profile t.caller j (is_held t.profile t.held j) b.grows.more ≡ true =
-          subst (λ (r : Profile). has_begun r t.caller j (is_held r t.held j) b.grows.more ≡ true) (sym p) (subst (λ i. has_begun s.profile i j (is_held s.profile t.held j) b.grows.more ≡ true) (sym c) later) in
+          let there : has_begun t.profile t.caller j (is_held t.profile t.held j) more ≡ true =
+          subst (λ (r : Profile). has_begun r t.caller j (is_held r t.held j) more ≡ true) (sym p) (subst (λ i. has_begun s.profile i j (is_held s.profile t.held j) more ≡ true) (sym c) later) in
           subst (λ (r : Profile). is_held r u.held j ≡ true) p (b.still q there);
     }
 
 pub grows_release : (s t u : Account) (xs : List Entry) (n k : ℕ) → Grows s xs n t → Releases t k u → Grows s xs n u
-grows_release s t u xs n k g r = record {
-  more = g.more;
-  same = same_joined s t u g.same (same_by t u _ _ _ _ _ _ r.after);
-  seen = ap (λ (v : Account). v.seen) r.after ∙ g.seen;
-  own_is = g.own_is;
-  alone = g.alone;
-  noted = ap (λ (v : Account). v.noted) r.after ∙ g.noted;
-  pairs = ap (λ (v : Account). v.pairs) r.after ∙ g.pairs;
-  spare = ap (λ (v : Account). v.spare) r.after ∙ g.spare;
-  holds = let o = ap (λ (v : Account). v.holds) r.after in let h = g.holds in omega arith;
-  zones = λ z. ap (λ (v : Account). is_open (state_of v) z) r.after ∙ g.zones z;
-  undisturbed = g.undisturbed;
-}
+grows_release s t u xs n k grown r =
+    let g = grown.adds in
+    record {
+      adds = record {
+        more = g.more;
+        same = same_joined s t u g.same (same_by t u _ _ _ _ _ _ r.after);
+        seen = ap (λ (v : Account). v.seen) r.after ∙ g.seen;
+        own_is = g.own_is;
+        alone = g.alone;
+        noted = ap (λ (v : Account). v.noted) r.after ∙ g.noted;
+        pairs = ap (λ (v : Account). v.pairs) r.after ∙ g.pairs;
+        spare = ap (λ (v : Account). v.spare) r.after ∙ g.spare;
+        holds = let o = ap (λ (v : Account). v.holds) r.after in let h = g.holds in omega arith;
+        zones = λ z. ap (λ (v : Account). is_open (state_of v) z) r.after ∙ g.zones z;
+      };
+      undisturbed = grown.undisturbed;
+    }
 
 -- where nothing was held and nothing noted, nothing begins
 pub grows_looked : (s t : Account) (n : ℕ) → s.held ≡ [] → Grows s [] n t → GrowsHolding s [] n t
 grows_looked s t n none g = record {
   grows = g;
   still = λ q y.
-      let quiet = quiet_begun s.profile s.caller (keeper_at q) (holds_spot s (keeper_at q)) g.more g.own_is in
+      let quiet = quiet_begun s.profile s.caller (keeper_at q) (holds_spot s (keeper_at q)) g.adds.more g.adds.own_is in
       let away = ap (λ h. is_held s.profile h (keeper_at q)) none in
       absurd (false≢true (sym (quiet ∙ away) ∙ y));
 }

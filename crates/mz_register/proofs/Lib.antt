@@ -5,13 +5,17 @@ mod PairLemmas
 mod OwnerLemmas
 mod ListLemmas
 mod LiveLemmas
+mod QuantumLemmas
 mod LightLemmas
 mod DutyLemmas
 mod SlotLemmas
 mod NanoLemmas
+mod HandLemmas
 mod PlainLemmas
+mod NoteLemmas
 mod OwnLemmas
 mod GrowthLemmas
 mod WordLemmas
 mod ClientLemmas
 mod ToyLemmas
+mod ToySlotLemmas

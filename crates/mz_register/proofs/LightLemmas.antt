@@ -1,6 +1,6 @@
 -- Lights and the words that tell them.
 use Rattle.std.proofs.Common.{◌≡◌, ◌≢◌, ℕ, ◌==◌, Bool, true, false, cond, not, get_or, set, ◌<◌, List, [], ◌∷◌, length, ◌+◌, ◌*◌, ◌/◌, ◌%◌, suc, zero, arith, refl, ap, sym, ◌∙◌, eq-eqb, add_comm, inl, inr}
-use Rattle.std.specs.Prelude.{nat_lt, replicate}
+use Rattle.std.specs.Prelude.{◌&&◌, ◌||◌, nat_lt, replicate}
 use Rattle.std.proofs.lemmas.Bool.{cases_Bool, eqb-true, and_parts, and_from, false≢true}
 use Rattle.std.proofs.lemmas.Bool.Decides.{nat_tests}
 use Rattle.std.proofs.lemmas.Nat.{div-mul-add, mod-mul-add}
@@ -164,3 +164,57 @@ slot_in n l ws e h =
 pub no_lights : (i n : ℕ) → lights_from i (replicate n 0) ≡ []
 no_lights i zero = refl
 no_lights i (suc n) = no_lights (i + 1) n
+
+-- which lights are held after one more, and without one
+
+lit_case : (m l k : Light) (ks zs : List Light) (d : Bool) → has_light zs m ≡ (same_light m l || has_light ks m)
+    → has_light (cond d (l ∷ k ∷ ks) (k ∷ zs)) m ≡ (same_light m l || (same_light m k || has_light ks m))
+lit_case m l k ks zs true h = refl
+lit_case m l k ks zs false h = ap (λ q. same_light m k || q) h ∙ swap (same_light m k) (same_light m l) (has_light ks m)
+  where
+    swap : (u v w : Bool) → (u || (v || w)) ≡ (v || (u || w))
+    swap true true w = refl
+    swap true false w = refl
+    swap false v w = refl
+
+pub has_lit : (lights : List Light) (l m : Light) → has_light (add_light l lights) m ≡ (same_light m l || has_light lights m)
+unfolding insert_by
+has_lit [] l m = refl
+has_lit (k ∷ ks) l m = lit_case m l k ks (add_light l ks) (nat_lt (light_number l) (light_number k)) (has_lit ks l m)
+
+unlit_case : (l m k : Light) (ks zs : List Light) (d : Bool) → same_light l k ≡ d → has_light zs m ≡ (not (same_light m l) && has_light ks m)
+    → has_light (cond (not d) (k ∷ zs) zs) m ≡ (not (same_light m l) && (same_light m k || has_light ks m))
+unlit_case l m k ks zs true e h = h ∙ sym (ap (λ z. not (same_light m l) && (same_light m z || has_light ks m)) (sym (light_same l k e)) ∙ gone (same_light m l) (has_light ks m))
+  where
+    gone : (u w : Bool) → (not u && (u || w)) ≡ (not u && w)
+    gone true w = refl
+    gone false w = refl
+unlit_case l m k ks zs false e h = elim (cases_Bool (same_light m l)) [
+  | inl t ↦
+      let n : same_light m k ≡ false = ap (λ z. same_light z k) (light_same m l t) ∙ e in
+      ap (λ q. same_light m k || q) h ∙ rw (n, t) refl
+  | inr t ↦ ap (λ q. same_light m k || q) h ∙ rw t refl
+]
+
+pub has_unlit : (lights : List Light) (l m : Light) → has_light (drop_light l lights) m ≡ (not (same_light m l) && has_light lights m)
+has_unlit [] l m = elim (same_light m l) as (λ d. false ≡ (not d && false)) [ true ↦ refl | false ↦ refl ]
+has_unlit (k ∷ ks) l m = unlit_case l m k ks (drop_light l ks) (same_light l k) refl (has_unlit ks l m)
+
+neither : (a b : Bool) → (a || b) ≡ false → (a ≡ false) × (b ≡ false)
+neither true b h = absurd (false≢true (sym h))
+neither false b h = (refl, h)
+
+none_dropped : (l : Light) (lights : List Light) → has_light lights l ≡ false → drop_light l lights ≡ lights
+none_dropped l [] h = refl
+none_dropped l (k ∷ ks) h = let t = neither (same_light l k) (has_light ks l) h in rw t.0 (ap (λ xs. k ∷ xs) (none_dropped l ks t.1))
+
+back_case : (l k : Light) (ks zs : List Light) (d : Bool) → same_light l k ≡ false → drop_light l ks ≡ ks → drop_light l zs ≡ ks → drop_light l (cond d (l ∷ k ∷ ks) (k ∷ zs)) ≡ k ∷ ks
+back_case l k ks zs true n h g = rw (light_refl l, n) (ap (λ xs. k ∷ xs) h)
+back_case l k ks zs false n h g = rw n (ap (λ xs. k ∷ xs) g)
+
+pub lit_and_unlit : (lights : List Light) (l : Light) → has_light lights l ≡ false → drop_light l (add_light l lights) ≡ lights
+unfolding insert_by
+lit_and_unlit [] l h = rw (light_refl l) refl
+lit_and_unlit (k ∷ ks) l h =
+    let t = neither (same_light l k) (has_light ks l) h in
+    back_case l k ks (add_light l ks) (nat_lt (light_number l) (light_number k)) t.0 (none_dropped l ks t.1) (lit_and_unlit ks l t.1)

@@ -24,11 +24,12 @@ use Rattle.mz_events.specs.Holding.{ReadsHeld}
 use Rattle.mz_register.specs.declared.pair.Pair.{Pair}
 use Rattle.mz_register.specs.HistoryLaws.{HistoryLaws}
 use Rattle.mz_register.specs.Keepers.{is_held}
-use Rattle.mz_register.specs.Pairs.{hand_in, pairs_after}
+use Rattle.mz_register.specs.Pairs.{hand_among, pairs_after, owners}
+use Rattle.mz_register.specs.Account.{is_live}
 use Rattle.mz_register.specs.Lights.{slot_size, slots_of, page_of_block, slot_address, slot_number, has_slot, is_slot_live, has_light, light_at, lights_from}
 use Rattle.mz_register.specs.Calls.{is_at_nano}
 use Rattle.mz_register.specs.Rule.{AreInOneHand, AreOfClass, AreWords, is_word}
-use Rattle.mz_register.proofs.OwnerLemmas.{same_true, same_refl, owned_live}
+use Rattle.mz_register.proofs.OwnerLemmas.{same_true, same_refl, hand_live}
 use Rattle.mz_register.proofs.PairLemmas.{hand_is}
 use Rattle.mz_register.proofs.ListLemmas.{or_elim, or_left, or_right, not_false, not_true, find_any, any_from, has_there, there_has, has_added, has_dropped, all_from}
 use Rattle.mz_register.proofs.LiveLemmas.{from_live, one_spot}
@@ -69,11 +70,11 @@ plain_spot (Large z) a n = refl
 plain_spot Nano a n = absurd (false≢true (sym n))
 
 -- a light that is held has its owner
-pub word_of_light : (p : Profile) (s : State) (c : ℕ) (pairs : List Pair) (ws : List ℕ) (b j : ℕ) → AreWords p s c pairs ws → b < p.nano → j < 1024 → has_light (lights_from 0 ws) (light_at b j) ≡ true → is_slot_live p s b j ≡ true → has_slot p (hand_in c pairs) b j ≡ true
+pub word_of_light : (p : Profile) (s : State) (c : ℕ) (pairs : List Pair) (ws : List ℕ) (b j : ℕ) → AreWords p s c pairs ws → b < p.nano → j < 1024 → has_light (lights_from 0 ws) (light_at b j) ≡ true → is_slot_live p s b j ≡ true → has_slot p (hand_among c pairs) b j ≡ true
 word_of_light p s c pairs ws b j words lb lj lit live =
     let w = get_or ws (b * 1024 + j) 0 in
     let n : nat_lt w 2 ≡ false = not_false (nat_lt w 2) (sym (light_of_slot b j ws lj) ∙ lit) in
-    (word_lit c w (is_slot_live p s b j) (has_slot p (hand_in c pairs) b j) n (words b j lb lj)).1 live
+    (word_lit c w (is_slot_live p s b j) (has_slot p (hand_among c pairs) b j) n (words b j lb lj)).1 live
 
 module _ (L : HistoryLaws) (p : Profile) (es : List Entry) (ok : AreLawful p opening es) where
   abbrev st : State
@@ -86,20 +87,23 @@ module _ (L : HistoryLaws) (p : Profile) (es : List Entry) (ok : AreLawful p ope
   asc = L.ascending p es ok
 
   -- a block in a hand, in one of nano's pages, is live there
-  pub owned_at : (pairs : List Pair) (c : ℕ) (x : Block) → AreInOneHand st pairs → has_block (hand_in c pairs) x ≡ true → nano_start p ≤ page_of x.first → has_block (kept_at st (nano_page (page_of x.first))).live x ≡ true
-  owned_at pairs c x one h n =
-      let l = from_live L st x (L.once p opening es L.once_first) (owned_live st pairs c x one h) in
+  pub hand_at : (pairs : List Pair) (c : ℕ) (x : Block) → owners pairs x ≤ one_for (is_live st x) → has_block (hand_among c pairs) x ≡ true → nano_start p ≤ page_of x.first → has_block (kept_at st (nano_page (page_of x.first))).live x ≡ true
+  hand_at pairs c x few h n =
+      let l = from_live L st x (L.once p opening es L.once_first) (hand_live st pairs c x few h) in
       let e : l.0 ≡ nano_page (page_of x.first) = spot_is p st l.0 x sep (asc.sizes l.0 x l.1) n (sep.at_home l.0 x l.1) in
       subst (λ j. has_block (kept_at st j).live x ≡ true) e l.1
 
+  pub owned_at : (pairs : List Pair) (c : ℕ) (x : Block) → AreInOneHand st pairs → has_block (hand_among c pairs) x ≡ true → nano_start p ≤ page_of x.first → has_block (kept_at st (nano_page (page_of x.first))).live x ≡ true
+  owned_at pairs c x one h n = hand_at pairs c x (let e = one x in omega arith) h n
+
   -- where a slot's pair is in a hand, it is live
-  pub owned_slot : (pairs : List Pair) (c b j : ℕ) → AreInOneHand st pairs → has_slot p (hand_in c pairs) b j ≡ true → is_slot_live p st b j ≡ true
+  pub owned_slot : (pairs : List Pair) (c b j : ℕ) → AreInOneHand st pairs → has_slot p (hand_among c pairs) b j ≡ true → is_slot_live p st b j ≡ true
   owned_slot pairs c b j one h =
-      let r = find_any (slot_test p b j) (hand_in c pairs) h in
+      let r = find_any (slot_test p b j) (hand_among c pairs) h in
       let x = r.0 in
       let t = and_parts (page_of x.first == page_of_block p b) (slot_number x == j) r.1.1 in
       let page : page_of x.first ≡ page_of_block p b = eqb-true (page_of x.first) (page_of_block p b) t.0 in
-      let at = owned_at pairs c x one (there_has (hand_in c pairs) x r.1.0) (omega arith) in
+      let at = owned_at pairs c x one (there_has (hand_among c pairs) x r.1.0) (omega arith) in
       let at2 : has_block (kept_at st (nano_page (page_of_block p b))).live x ≡ true = subst (λ i. has_block (kept_at st (nano_page i)).live x ≡ true) page at in
       any_from (slot_test p b j) (kept_at st (nano_page (page_of_block p b))).live x (has_there (kept_at st (nano_page (page_of_block p b))).live x at2) r.1.1
 
@@ -110,10 +114,10 @@ module _ (L : HistoryLaws) (p : Profile) (es : List Entry) (ok : AreLawful p ope
   whole i x h = (L.forms p es (nano_page i) x ok h).slot refl
 
   -- what is live in a page has one size, and each slot once
-  one_slot : (i : ℕ) (x y : Block) → has_block (kept_at st (nano_page i)).live x ≡ true → has_block (kept_at st (nano_page i)).live y ≡ true → slot_number x ≡ slot_number y → x ≡ y
+  pub one_slot : (i : ℕ) (x y : Block) → has_block (kept_at st (nano_page i)).live x ≡ true → has_block (kept_at st (nano_page i)).live y ≡ true → slot_number x ≡ slot_number y → x ≡ y
   one_slot i x y hx hy e = slot_once x y (whole i x hx) (whole i y hy) ((L.forms p es (nano_page i) y ok hy).alike refl x hx) (page_of_live i x hx ∙ sym (page_of_live i y hy)) e
 
-  pub lit_owned : (c : ℕ) (pairs : List Pair) (ws : List ℕ) (b j : ℕ) → AreWords p st c pairs ws → b < p.nano → j < 1024 → has_light (lights_from 0 ws) (light_at b j) ≡ true → is_slot_live p st b j ≡ true → has_slot p (hand_in c pairs) b j ≡ true
+  pub lit_owned : (c : ℕ) (pairs : List Pair) (ws : List ℕ) (b j : ℕ) → AreWords p st c pairs ws → b < p.nano → j < 1024 → has_light (lights_from 0 ws) (light_at b j) ≡ true → is_slot_live p st b j ≡ true → has_slot p (hand_among c pairs) b j ≡ true
   lit_owned c pairs ws b j words lb lj lit live = word_of_light p st c pairs ws b j words lb lj lit live
 
   -- events elsewhere
@@ -148,21 +152,21 @@ module _ (L : HistoryLaws) (p : Profile) (es : List Entry) (ok : AreLawful p ope
     kept_in_hand (Open z) f o hand x i hx h = h
     kept_in_hand (Shut z) f o hand x i hx h = h
 
-    still_owned : (b j : ℕ) → has_slot p (hand_in c pairs) b j ≡ true → has_slot p (hand_in c (pairs_after c pairs e)) b j ≡ true
+    still_owned : (b j : ℕ) → has_slot p (hand_among c pairs) b j ≡ true → has_slot p (hand_among c (pairs_after c pairs e)) b j ≡ true
     still_owned b j h =
-        let r = find_any (slot_test p b j) (hand_in c pairs) h in
+        let r = find_any (slot_test p b j) (hand_among c pairs) h in
         let x = r.0 in
         let t = and_parts (page_of x.first == page_of_block p b) (slot_number x == j) r.1.1 in
         let page : page_of x.first ≡ page_of_block p b = eqb-true (page_of x.first) (page_of_block p b) t.0 in
-        let mine = there_has (hand_in c pairs) x r.1.0 in
+        let mine = there_has (hand_among c pairs) x r.1.0 in
         let at = owned_at pairs c x one mine (omega arith) in
-        let now : has_block (hand_in c (pairs_after c pairs e)) x ≡ true = ap (λ bs. has_block bs x) (hand_is c pairs e) ∙ kept_in_hand e fits far (hand_in c pairs) x (page_of x.first) at mine in
-        any_from (slot_test p b j) (hand_in c (pairs_after c pairs e)) x (has_there (hand_in c (pairs_after c pairs e)) x now) r.1.1
+        let now : has_block (hand_among c (pairs_after c pairs e)) x ≡ true = ap (λ bs. has_block bs x) (hand_is c pairs e) ∙ kept_in_hand e fits far (hand_among c pairs) x (page_of x.first) at mine in
+        any_from (slot_test p b j) (hand_among c (pairs_after c pairs e)) x (has_there (hand_among c (pairs_after c pairs e)) x now) r.1.1
 
     pub words_elsewhere : (ws : List ℕ) → AreWords p st c pairs ws → AreWords p (after p st c e) c (pairs_after c pairs e) ws
     words_elsewhere ws words b j lb lj =
         let same : is_slot_live p (after p st c e) b j ≡ is_slot_live p st b j = ap (λ bs. has_slot p bs b j) (same_page (page_of_block p b)) in
-        word_more c (get_or ws (b * 1024 + j) 0) (is_slot_live p st b j) (has_slot p (hand_in c pairs) b j) (is_slot_live p (after p st c e) b j) (has_slot p (hand_in c (pairs_after c pairs e)) b j) (words b j lb lj)
+        word_more c (get_or ws (b * 1024 + j) 0) (is_slot_live p st b j) (has_slot p (hand_among c pairs) b j) (is_slot_live p (after p st c e) b j) (has_slot p (hand_among c (pairs_after c pairs e)) b j) (words b j lb lj)
         (λ y. same) (λ n f y. still_owned b j (f (sym same ∙ y)))
 
     pub class_elsewhere : (classes : List ℕ) → AreOfClass p st classes → AreOfClass p (after p st c e) classes
@@ -173,7 +177,7 @@ module _ (L : HistoryLaws) (p : Profile) (es : List Entry) (ok : AreLawful p ope
   module _ (c : ℕ) (pairs : List Pair) (classes ws : List ℕ) (b0 j0 a n al : ℕ) (nano : p.nano ≤ p.pages) (few : p.nano ≤ 1024) (caller : c < p.callers)
       (below : b0 < p.nano) (small : get_or classes b0 0 ≤ 16) (one : AreInOneHand st pairs) (words : AreWords p st c pairs ws) (of : AreOfClass p st classes)
       (light : has_light (lights_from 0 ws) (light_at b0 j0) ≡ true) (class : 1 ≤ get_or classes b0 0) (there : j0 < slots_of (get_or classes b0 0)) (size : n ≡ slot_size (get_or classes b0 0)) (address : a ≡ slot_address p b0 j0 n) (some : 1 ≤ al) (aligned : a % al ≡ 0)
-      (fresh : has_block (hand_in c pairs) (block_at a n) ≡ false) (zone_open : is_open st (zone_of Nano) ≡ true) where
+      (fresh : has_block (hand_among c pairs) (block_at a n) ≡ false) (zone_open : is_open st (zone_of Nano) ≡ true) where
     abbrev new : Block
     new = block_at a n
 
@@ -201,14 +205,14 @@ module _ (L : HistoryLaws) (p : Profile) (es : List Entry) (ok : AreLawful p ope
         let at : has_block (kept_at st (nano_page (page_of_block p b0))).live x ≡ true = subst (λ i. has_block (kept_at st (nano_page i)).live x ≡ true) page h in
         let xp : page_of x.first ≡ page_of_block p b0 = page_of_live (page_of_block p b0) x at in
         let live : is_slot_live p st b0 j0 ≡ true = any_from (slot_test p b0 j0) (kept_at st (nano_page (page_of_block p b0))).live x (has_there (kept_at st (nano_page (page_of_block p b0))).live x at) (and_from (page_of x.first == page_of_block p b0) (slot_number x == j0) (eq-eqb _ _ xp) (eq-eqb _ _ e)) in
-        let r = find_any (slot_test p b0 j0) (hand_in c pairs) (lit_owned c pairs ws b0 j0 words below slot_few light live) in
+        let r = find_any (slot_test p b0 j0) (hand_among c pairs) (lit_owned c pairs ws b0 j0 words below slot_few light live) in
         let y = r.0 in
         let t = and_parts (page_of y.first == page_of_block p b0) (slot_number y == j0) r.1.1 in
         let yp : page_of y.first ≡ page_of_block p b0 = eqb-true (page_of y.first) (page_of_block p b0) t.0 in
-        let mine = there_has (hand_in c pairs) y r.1.0 in
+        let mine = there_has (hand_among c pairs) y r.1.0 in
         let yl : has_block (kept_at st (nano_page (page_of_block p b0))).live y ≡ true = subst (λ i. has_block (kept_at st (nano_page i)).live y ≡ true) yp (owned_at pairs c y one mine (omega arith)) in
         let is : y ≡ new = slot_once y new (whole (page_of_block p b0) y yl) (new_whole p b0 j0 n a byte there_n address) (of b0 y below yl ∙ sym size) (yp ∙ sym page) (eqb-true (slot_number y) j0 t.1 ∙ sym number) in
-        false≢true (sym fresh ∙ (ap (λ z. has_block (hand_in c pairs) z) (sym is) ∙ mine))
+        false≢true (sym fresh ∙ (ap (λ z. has_block (hand_among c pairs) z) (sym is) ∙ mine))
 
     all_apart : list_all (λ x. blocks_apart x new) (kept_at st (nano_page (page_of a))).live ≡ true
     all_apart = all_from (λ x. blocks_apart x new) (kept_at st (nano_page (page_of a))).live (λ x h.
@@ -279,8 +283,8 @@ module _ (L : HistoryLaws) (p : Profile) (es : List Entry) (ok : AreLawful p ope
       | inr z ↦ of b x lb (sym (ap (λ bs. has_block bs x) (page_same (page_of_block p b) z)) ∙ h)
     ]
 
-    hand_now : (b j : ℕ) → has_slot p (hand_in c (pairs_after c pairs (New Nano a n al))) b j ≡ (has_slot p (hand_in c pairs) b j || slot_test p b j new)
-    hand_now b j = ap (λ bs. has_slot p bs b j) (hand_is c pairs (New Nano a n al)) ∙ any_snoc (slot_test p b j) (hand_in c pairs) new
+    hand_now : (b j : ℕ) → has_slot p (hand_among c (pairs_after c pairs (New Nano a n al))) b j ≡ (has_slot p (hand_among c pairs) b j || slot_test p b j new)
+    hand_now b j = ap (λ bs. has_slot p bs b j) (hand_is c pairs (New Nano a n al)) ∙ any_snoc (slot_test p b j) (hand_among c pairs) new
 
     live_now : (b j : ℕ) → slot_test p b j new ≡ false → is_slot_live p now b j ≡ is_slot_live p st b j
     live_now b j o = elim (cases_Bool (page_of a == page_of_block p b)) [
@@ -290,7 +294,7 @@ module _ (L : HistoryLaws) (p : Profile) (es : List Entry) (ok : AreLawful p ope
 
     pub new_words : AreWords p now c (pairs_after c pairs (New Nano a n al)) ws
     new_words b j lb lj =
-        word_more c (get_or ws (b * 1024 + j) 0) (is_slot_live p st b j) (has_slot p (hand_in c pairs) b j) (is_slot_live p now b j) (has_slot p (hand_in c (pairs_after c pairs (New Nano a n al))) b j) (words b j lb lj)
+        word_more c (get_or ws (b * 1024 + j) 0) (is_slot_live p st b j) (has_slot p (hand_among c pairs) b j) (is_slot_live p now b j) (has_slot p (hand_among c (pairs_after c pairs (New Nano a n al))) b j) (words b j lb lj)
         (λ y. elim (cases_Bool (slot_test p b j new)) [
           | inl t ↦
               let u = and_parts (page_of a == page_of_block p b) (slot_number new == j) t in
@@ -303,14 +307,14 @@ module _ (L : HistoryLaws) (p : Profile) (es : List Entry) (ok : AreLawful p ope
           | inr o ↦ live_now b j o
         ])
         (λ z f y. elim (cases_Bool (slot_test p b j new)) [
-          | inl t ↦ hand_now b j ∙ or_right (has_slot p (hand_in c pairs) b j) (slot_test p b j new) t
-          | inr o ↦ hand_now b j ∙ or_left (has_slot p (hand_in c pairs) b j) (slot_test p b j new) (f (sym (live_now b j o) ∙ y))
+          | inl t ↦ hand_now b j ∙ or_right (has_slot p (hand_among c pairs) b j) (slot_test p b j new) t
+          | inr o ↦ hand_now b j ∙ or_left (has_slot p (hand_among c pairs) b j) (slot_test p b j new) (f (sym (live_now b j o) ∙ y))
         ])
 
   -- the end of a slot, and its denial
 
   module _ (c : ℕ) (pairs : List Pair) (ws : List ℕ) (a n : ℕ) (caller : c < p.callers) (one : AreInOneHand st pairs) (words : AreWords p st c pairs ws)
-      (mine : has_block (hand_in c pairs) (block_at a n) ≡ true) (page : nano_start p ≤ page_of a) (zone_open : is_open st (zone_of Nano) ≡ true) where
+      (mine : has_block (hand_among c pairs) (block_at a n) ≡ true) (page : nano_start p ≤ page_of a) (zone_open : is_open st (zone_of Nano) ≡ true) where
     abbrev old : Block
     old = block_at a n
 
@@ -351,7 +355,7 @@ module _ (L : HistoryLaws) (p : Profile) (es : List Entry) (ok : AreLawful p ope
     pub no_words : (z : ℕ) → AreWords p (after p st c (No Nano z a n)) c pairs ws
     no_words z b j lb lj =
         let same : is_slot_live p (after p st c (No Nano z a n)) b j ≡ is_slot_live p st b j = ap (λ bs. has_slot p bs b j) (no_same z (page_of_block p b)) in
-        word_more c (get_or ws (b * 1024 + j) 0) (is_slot_live p st b j) (has_slot p (hand_in c pairs) b j) (is_slot_live p (after p st c (No Nano z a n)) b j) (has_slot p (hand_in c pairs) b j) (words b j lb lj) (λ y. same) (λ m f y. f (sym same ∙ y))
+        word_more c (get_or ws (b * 1024 + j) 0) (is_slot_live p st b j) (has_slot p (hand_among c pairs) b j) (is_slot_live p (after p st c (No Nano z a n)) b j) (has_slot p (hand_among c pairs) b j) (words b j lb lj) (λ y. same) (λ m f y. f (sym same ∙ y))
 
     abbrev then : State
     then = after p st c (End Nano a n)
@@ -375,8 +379,8 @@ module _ (L : HistoryLaws) (p : Profile) (es : List Entry) (ok : AreLawful p ope
       | inr z ↦ of b x lb (sym (ap (λ bs. has_block bs x) (end_same (page_of_block p b) z)) ∙ h)
     ]
 
-    then_hand : (b j : ℕ) → slot_test p b j old ≡ false → has_slot p (hand_in c (pairs_after c pairs (End Nano a n))) b j ≡ has_slot p (hand_in c pairs) b j
-    then_hand b j o = ap (λ bs. has_slot p bs b j) (hand_is c pairs (End Nano a n)) ∙ any_dropped (slot_test p b j) old (hand_in c pairs) o
+    then_hand : (b j : ℕ) → slot_test p b j old ≡ false → has_slot p (hand_among c (pairs_after c pairs (End Nano a n))) b j ≡ has_slot p (hand_among c pairs) b j
+    then_hand b j o = ap (λ bs. has_slot p bs b j) (hand_is c pairs (End Nano a n)) ∙ any_dropped (slot_test p b j) old (hand_among c pairs) o
 
     then_live : (b j : ℕ) → slot_test p b j old ≡ false → is_slot_live p then b j ≡ is_slot_live p st b j
     then_live b j o = elim (cases_Bool (page_of a == page_of_block p b)) [
@@ -401,7 +405,7 @@ module _ (L : HistoryLaws) (p : Profile) (es : List Entry) (ok : AreLawful p ope
 
     pub end_words : (b0 : ℕ) → page_of a ≡ page_of_block p b0 → has_light (lights_from 0 ws) (light_at b0 (slot_number old)) ≡ true → AreWords p then c (pairs_after c pairs (End Nano a n)) ws
     end_words b0 pg light b j lb lj =
-        word_more c (get_or ws (b * 1024 + j) 0) (is_slot_live p st b j) (has_slot p (hand_in c pairs) b j) (is_slot_live p then b j) (has_slot p (hand_in c (pairs_after c pairs (End Nano a n))) b j) (words b j lb lj)
+        word_more c (get_or ws (b * 1024 + j) 0) (is_slot_live p st b j) (has_slot p (hand_among c pairs) b j) (is_slot_live p then b j) (has_slot p (hand_among c (pairs_after c pairs (End Nano a n))) b j) (words b j lb lj)
         (λ y. elim (cases_Bool (slot_test p b j old)) [
           | inl t ↦
               let u = and_parts (page_of a == page_of_block p b) (slot_number old == j) t in

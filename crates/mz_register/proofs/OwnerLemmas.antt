@@ -7,7 +7,7 @@ use Rattle.mz_base.specs.Lists.{has_block}
 use Rattle.mz_events.specs.State.{State}
 use Rattle.mz_events.specs.Changes.{one_for}
 use Rattle.mz_register.specs.declared.pair.Pair.{Pair}
-use Rattle.mz_register.specs.Pairs.{pair_at, block_of, hand_in, is_pair, owners, resized_pair, is_from, given}
+use Rattle.mz_register.specs.Pairs.{pair_at, block_of, hand_among, is_pair, owners, resized_pair, is_from, given}
 use Rattle.mz_register.specs.Account.{is_live}
 use Rattle.mz_register.specs.Rule.{AreInOneHand}
 
@@ -23,7 +23,7 @@ same_refl x = and_from (x.first == x.first) (x.size == x.size) (eq-eqb x.first x
 
 -- counts
 
-owners_cons : (h : Pair) (hs : List Pair) (x : Block) → owners (h ∷ hs) x ≡ one_for (same_block x (block_of h)) + owners hs x
+pub owners_cons : (h : Pair) (hs : List Pair) (x : Block) → owners (h ∷ hs) x ≡ one_for (same_block x (block_of h)) + owners hs x
 owners_cons h hs x = elim (cases_Bool (same_block x (block_of h))) [
   | inl y ↦ rw y (omega arith)
   | inr n ↦ rw n (omega arith)
@@ -45,7 +45,7 @@ owners_given from to a (h ∷ hs) x = given_case from to a h hs x (is_from from 
 abbrev pub times_owned : ℕ → Block → List Pair → ℕ
 times_owned c b hs = length (filter (is_pair c b) hs)
 
-times_cons : (c : ℕ) (b : Block) (h : Pair) (hs : List Pair) → times_owned c b (h ∷ hs) ≡ one_for (is_pair c b h) + times_owned c b hs
+pub times_cons : (c : ℕ) (b : Block) (h : Pair) (hs : List Pair) → times_owned c b (h ∷ hs) ≡ one_for (is_pair c b h) + times_owned c b hs
 times_cons c b h hs = elim (cases_Bool (is_pair c b h)) [
   | inl y ↦ rw y (omega arith)
   | inr n ↦ rw n (omega arith)
@@ -118,14 +118,14 @@ owners_sized c b x m (h ∷ hs) =
 
 -- a block in the hand of c has a pair of c, and c has no more pairs of a block than there are
 
-owned_case : (c : ℕ) (b : Block) (h : Pair) (hs : List Pair) (d : Bool) → (h.caller == c) ≡ d → (has_block (hand_in c hs) b ≡ true → 1 ≤ times_owned c b hs) → has_block (map block_of (cond d (h ∷ filter (λ g. g.caller == c) hs) (filter (λ g. g.caller == c) hs))) b ≡ true → 1 ≤ times_owned c b (h ∷ hs)
+owned_case : (c : ℕ) (b : Block) (h : Pair) (hs : List Pair) (d : Bool) → (h.caller == c) ≡ d → (has_block (hand_among c hs) b ≡ true → 1 ≤ times_owned c b hs) → has_block (map block_of (cond d (h ∷ filter (λ g. g.caller == c) hs) (filter (λ g. g.caller == c) hs))) b ≡ true → 1 ≤ times_owned c b (h ∷ hs)
 owned_case c b h hs true e f y = elim (cases_Bool (same_block b (block_of h))) [
   | inl z ↦ let t = times_cons c b h hs in let is : is_pair c b h ≡ true = and_from (h.caller == c) (same_block b (block_of h)) e z in let o : one_for (is_pair c b h) ≡ 1 = ap one_for is in omega arith
   | inr n ↦ let t = times_cons c b h hs in let r = f (rw n at y) in omega arith
 ]
 owned_case c b h hs false e f y = let t = times_cons c b h hs in let r = f y in omega arith
 
-pub owned_times : (c : ℕ) (b : Block) (hs : List Pair) → has_block (hand_in c hs) b ≡ true → 1 ≤ times_owned c b hs
+pub owned_times : (c : ℕ) (b : Block) (hs : List Pair) → has_block (hand_among c hs) b ≡ true → 1 ≤ times_owned c b hs
 owned_times c b [] y = absurd (false≢true y)
 owned_times c b (h ∷ hs) y = owned_case c b h hs (h.caller == c) refl (owned_times c b hs) y
 
@@ -139,12 +139,15 @@ pub times_few : (c : ℕ) (b : Block) (hs : List Pair) → times_owned c b hs �
 times_few c b [] = omega arith
 times_few c b (h ∷ hs) = let t = times_cons c b h hs in let o = owners_cons h hs b in let r = times_few c b hs in let s = times_case c b h in omega arith
 
--- a block in a hand is live, where each live block is in exactly one
-pub owned_live : (s : State) (hs : List Pair) (c : ℕ) (b : Block) → AreInOneHand s hs → has_block (hand_in c hs) b ≡ true → is_live s b ≡ true
-owned_live s hs c b one y = elim (cases_Bool (is_live s b)) [
+-- a block in a hand is live, where it has no owner if it isn't
+pub hand_live : (s : State) (hs : List Pair) (c : ℕ) (b : Block) → owners hs b ≤ one_for (is_live s b) → has_block (hand_among c hs) b ≡ true → is_live s b ≡ true
+hand_live s hs c b few y = elim (cases_Bool (is_live s b)) [
   | inl l ↦ l
-  | inr n ↦ let o = owned_times c b hs y in let f = times_few c b hs in let e = one b in let z : one_for (is_live s b) ≡ 0 = ap one_for n in absurd (omega arith)
+  | inr n ↦ let o = owned_times c b hs y in let f = times_few c b hs in let z : one_for (is_live s b) ≡ 0 = ap one_for n in absurd (omega arith)
 ]
+
+pub owned_live : (s : State) (hs : List Pair) (c : ℕ) (b : Block) → AreInOneHand s hs → has_block (hand_among c hs) b ≡ true → is_live s b ≡ true
+owned_live s hs c b one y = hand_live s hs c b (let e = one b in omega arith) y
 
 -- each live block is in exactly one hand still
 
@@ -171,7 +174,7 @@ hand_new s t hs h now fresh one x = elim (cases_Bool (same_block x (block_of h))
 ]
 
 -- c, in whose hand the live block is, has just one pair of it
-one_time : (s : State) (hs : List Pair) (c : ℕ) (b : Block) → AreInOneHand s hs → has_block (hand_in c hs) b ≡ true → times_owned c b hs ≡ 1
+one_time : (s : State) (hs : List Pair) (c : ℕ) (b : Block) → AreInOneHand s hs → has_block (hand_among c hs) b ≡ true → times_owned c b hs ≡ 1
 one_time s hs c b one y =
     let l = owned_live s hs c b one y in
     let e : owners hs b ≡ 1 = one b ∙ ap one_for l in
@@ -179,7 +182,7 @@ one_time s hs c b one y =
     let f = times_few c b hs in
     omega arith
 
-pub hand_end : (s t : State) (hs : List Pair) (c : ℕ) (b : Block) → ((x : Block) → is_live t x ≡ (not (same_block x b) && is_live s x)) → has_block (hand_in c hs) b ≡ true → AreInOneHand s hs → AreInOneHand t (filter (λ h. not (is_pair c b h)) hs)
+pub hand_end : (s t : State) (hs : List Pair) (c : ℕ) (b : Block) → ((x : Block) → is_live t x ≡ (not (same_block x b) && is_live s x)) → has_block (hand_among c hs) b ≡ true → AreInOneHand s hs → AreInOneHand t (filter (λ h. not (is_pair c b h)) hs)
 hand_end s t hs c b now mine one x =
     let k = one_time s hs c b one mine in
     let e = owners_ended c b x hs in
@@ -196,7 +199,7 @@ hand_end s t hs c b now mine one x =
     ]
 
 pub hand_size : (s t : State) (hs : List Pair) (c : ℕ) (b : Block) (m : ℕ) → ((x : Block) → is_live t x ≡ (same_block x (block_at b.first m) || (not (same_block x b) && is_live s x)))
-    → (same_block (block_at b.first m) b ≡ false → is_live s (block_at b.first m) ≡ false) → has_block (hand_in c hs) b ≡ true → AreInOneHand s hs → AreInOneHand t (map (resized_pair c b m) hs)
+    → (same_block (block_at b.first m) b ≡ false → is_live s (block_at b.first m) ≡ false) → has_block (hand_among c hs) b ≡ true → AreInOneHand s hs → AreInOneHand t (map (resized_pair c b m) hs)
 hand_size s t hs c b m now fresh mine one x =
     let k = one_time s hs c b one mine in
     let e = owners_sized c b x m hs in

@@ -23,7 +23,7 @@ slot_test p b j x = (page_of x.first == page_of_block p b) && (slot_number x == 
 
 -- lists and tests
 
-added_case : {A : Type 0} (test : A → Bool) (x y : A) (ys zs : List A) (d : Bool) → list_any test zs ≡ (test x || list_any test ys) → list_any test (cond d (x ∷ y ∷ ys) (y ∷ zs)) ≡ (test x || (test y || list_any test ys))
+pub added_case : {A : Type 0} (test : A → Bool) (x y : A) (ys zs : List A) (d : Bool) → list_any test zs ≡ (test x || list_any test ys) → list_any test (cond d (x ∷ y ∷ ys) (y ∷ zs)) ≡ (test x || (test y || list_any test ys))
 added_case test x y ys zs true h = refl
 added_case test x y ys zs false h = ap (λ q. test y || q) h ∙ swap (test y) (test x) (list_any test ys)
   where

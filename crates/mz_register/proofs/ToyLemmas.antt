@@ -1,5 +1,5 @@
 -- The keepers of the tests stand for the places of their profile, and may be held while two events are noted.
-use Rattle.std.proofs.Common.{◌≡◌, ◌≢◌, ℕ, ◌<◌, ◌≤◌, ◌==◌, List, [], ◌∷◌, ◌++◌, length, true, false, refl, ap, sym, subst, ◌∙◌, zero, suc, arith, None}
+use Rattle.std.proofs.Common.{◌≡◌, ℕ, ◌<◌, ◌≤◌, ◌==◌, List, [], ◌∷◌, ◌++◌, true, false, refl, ap, sym, subst, ◌∙◌, zero, suc, arith, None}
 use Rattle.std.specs.Prelude.{map, ◌||◌, slice_get}
 use Rattle.std.proofs.lemmas.Bool.{false≢true, eqb-true}
 use Rattle.mz_base.specs.declared.profile.Profile.{Profile}
@@ -15,7 +15,7 @@ use Rattle.mz_events.specs.Effect.{after, write_all}
 use Rattle.mz_events.specs.Rules.{Fits}
 use Rattle.mz_events.specs.History.{after_all}
 use Rattle.mz_events.specs.Holding.{ReadsHeld}
-use Rattle.mz_events.specs.Standing.{Keeping, Stands}
+use Rattle.mz_events.specs.Standing.{Stands}
 use Rattle.mz_register.specs.HistoryLaws.{HistoryLaws}
 use Rattle.mz_register.specs.Keepers.{keeper_count, keeper_spot, place_at, is_among, is_held}
 use Rattle.mz_register.specs.Account.{Account, state_of, known, holds_spot, entry_at}
@@ -123,19 +123,19 @@ reads_one L t q at p held there j y =
 module _ (L : HistoryLaws) (s : Account) (profile : s.profile ≡ toy_profile) (caller : s.caller ≡ 0) (between : s.between ≡ true) (seen : s.seen ≡ []) (held : s.held ≡ []) (spare : 2 ≤ s.spare) where
   module _ (t : Account) (h : HasTaken s 0 1 t) where
     none_seen : t.seen ≡ []
-    none_seen = let g = h.grows.grows in g.seen ∙ (ap (λ es. s.seen ++ es) (g.alone between) ∙ ap (λ es. es ++ []) seen)
+    none_seen = let g = h.grows.grows.adds in g.seen ∙ (ap (λ es. s.seen ++ es) (g.alone between) ∙ ap (λ es. es ++ []) seen)
 
     p1 : t.profile ≡ toy_profile
-    p1 = h.grows.grows.same.profile ∙ profile
+    p1 = h.grows.grows.adds.same.profile ∙ profile
 
     c1 : t.caller ≡ 0
-    c1 = h.grows.grows.same.caller ∙ caller
+    c1 = h.grows.grows.adds.same.caller ∙ caller
 
     b1 : t.between ≡ true
-    b1 = h.grows.grows.same.between ∙ between
+    b1 = h.grows.grows.adds.same.between ∙ between
 
     may_first : CanNote t tiny_full
-    may_first = let r = h.grows.grows.spare in record {
+    may_first = let r = h.grows.grows.adds.spare in record {
       room = omega arith;
       between = λ y. absurd (false≢true y);
       in_hand = refl;
@@ -155,7 +155,7 @@ module _ (L : HistoryLaws) (s : Account) (profile : s.profile ≡ toy_profile) (
           ∙ (ap (λ es. (es ++ []) ++ entry_at m t.caller tiny_full ∷ []) none_seen ∙ ap (λ i. entry_at m i tiny_full ∷ []) c1))
 
       may_second : CanNote u depot_full
-      may_second = let r = h.grows.grows.spare in let r2 = ap (λ (a : Account). a.spare) k.after in record {
+      may_second = let r = h.grows.grows.adds.spare in let r2 = ap (λ (a : Account). a.spare) k.after in record {
         room = omega arith;
         between = λ y. absurd (false≢true y);
         in_hand = refl;

@@ -17,7 +17,7 @@ use Rattle.mz_events.specs.Changes.{one_for}
 use Rattle.mz_events.specs.History.{AreLawful, after_all}
 use Rattle.mz_register.specs.declared.pair.Pair.{Pair}
 use Rattle.mz_register.specs.HistoryLaws.{HistoryLaws}
-use Rattle.mz_register.specs.Pairs.{hand_in}
+use Rattle.mz_register.specs.Pairs.{hand_among}
 use Rattle.mz_register.specs.Lights.{slot_size, slots_of, page_of_block, slot_number, has_slot, is_slot_live, has_light, light_at, lights_from}
 use Rattle.mz_register.specs.Rule.{AreInOneHand, AreOfClass, AreWords, is_word}
 use Rattle.mz_register.proofs.ListLemmas.{find_any, there_has, same_bool}
@@ -26,19 +26,19 @@ use Rattle.mz_register.proofs.SlotLemmas.{slot_test, slot_end}
 use Rattle.mz_register.proofs.NanoLemmas.{word_idle, word_lit, lit_word, idle_word, owned_slot, lit_owned}
 
 -- one word is another
-pub words_set : (p : Profile) (s : State) (c : ℕ) (pairs : List Pair) (ws : List ℕ) (b j v : ℕ) → b < p.nano → j < 1024 → length ws ≡ p.nano * 1024 → is_word c (is_slot_live p s b j) (has_slot p (hand_in c pairs) b j) v ≡ true → AreWords p s c pairs ws → AreWords p s c pairs (set ws (b * 1024 + j) v)
+pub words_set : (p : Profile) (s : State) (c : ℕ) (pairs : List Pair) (ws : List ℕ) (b j v : ℕ) → b < p.nano → j < 1024 → length ws ≡ p.nano * 1024 → is_word c (is_slot_live p s b j) (has_slot p (hand_among c pairs) b j) v ≡ true → AreWords p s c pairs ws → AreWords p s c pairs (set ws (b * 1024 + j) v)
 words_set p s c pairs ws b j v lb lj len new words i k li lk = elim (cases_Bool (i * 1024 + k == b * 1024 + j)) [
   | inl y ↦
       let e : i * 1024 + k ≡ b * 1024 + j = eqb-true (i * 1024 + k) (b * 1024 + j) y in
       let eb : b ≡ i = omega arith in
       let ej : j ≡ k = omega arith in
       let at : get_or (set ws (b * 1024 + j) v) (i * 1024 + k) 0 ≡ v = ap (λ n. get_or (set ws (b * 1024 + j) v) n 0) e ∙ get_or-set_same ws (b * 1024 + j) v 0 (omega arith) in
-      let here : is_word c (is_slot_live p s i k) (has_slot p (hand_in c pairs) i k) v ≡ true =
-      subst (λ x. is_word c (is_slot_live p s x k) (has_slot p (hand_in c pairs) x k) v ≡ true) eb (subst (λ x. is_word c (is_slot_live p s b x) (has_slot p (hand_in c pairs) b x) v ≡ true) ej new) in
-      ap (is_word c (is_slot_live p s i k) (has_slot p (hand_in c pairs) i k)) at ∙ here
+      let here : is_word c (is_slot_live p s i k) (has_slot p (hand_among c pairs) i k) v ≡ true =
+      subst (λ x. is_word c (is_slot_live p s x k) (has_slot p (hand_among c pairs) x k) v ≡ true) eb (subst (λ x. is_word c (is_slot_live p s b x) (has_slot p (hand_among c pairs) b x) v ≡ true) ej new) in
+      ap (is_word c (is_slot_live p s i k) (has_slot p (hand_among c pairs) i k)) at ∙ here
   | inr n ↦
       let at : get_or (set ws (b * 1024 + j) v) (i * 1024 + k) 0 ≡ get_or ws (i * 1024 + k) 0 = get_or-set_other ws (b * 1024 + j) (i * 1024 + k) v 0 (λ e. false≢true (sym n ∙ eq-eqb (i * 1024 + k) (b * 1024 + j) e)) in
-      ap (is_word c (is_slot_live p s i k) (has_slot p (hand_in c pairs) i k)) at ∙ words i k li lk
+      ap (is_word c (is_slot_live p s i k) (has_slot p (hand_among c pairs) i k)) at ∙ words i k li lk
 ]
 
 -- the words are those of any caller, and of other pairs, where none is held
@@ -51,7 +51,7 @@ words_idle p s c d pairs others ws none words b j lb lj =
     let w = get_or ws (b * 1024 + j) 0 in
     let n : not (nat_lt w 2) ≡ false = sym (light_of_slot b j ws lj) ∙ ap (λ ls. has_light ls (light_at b j)) none in
     let t : nat_lt w 2 ≡ true = elim (cases_Bool (nat_lt w 2)) [ inl y ↦ y | inr z ↦ absurd (false≢true (sym n ∙ ap not z)) ] in
-    idle_any c d w (is_slot_live p s b j) (has_slot p (hand_in c pairs) b j) (has_slot p (hand_in d others) b j) t (words b j lb lj)
+    idle_any c d w (is_slot_live p s b j) (has_slot p (hand_among c pairs) b j) (has_slot p (hand_among d others) b j) t (words b j lb lj)
 
 -- classes
 
@@ -88,7 +88,7 @@ no_words p s c pairs n none b j lb lj =
     let idle : is_slot_live p s b j ≡ false = ap (λ bs. has_slot p bs b j) (none (nano_page (page_of_block p b))) in
     let zeros : List ℕ = replicate n 0 in
     let w : get_or zeros (b * 1024 + j) 0 ≡ zero = zero_at n (b * 1024 + j) in
-    ap (is_word c (is_slot_live p s b j) (has_slot p (hand_in c pairs) b j)) w ∙ idle_word c 0 (is_slot_live p s b j) (has_slot p (hand_in c pairs) b j) refl (sym (ap one_for idle))
+    ap (is_word c (is_slot_live p s b j) (has_slot p (hand_among c pairs) b j)) w ∙ idle_word c 0 (is_slot_live p s b j) (has_slot p (hand_among c pairs) b j) refl (sym (ap one_for idle))
 
 pub no_classes : (n : ℕ) → list_all (λ d. nat_le d 16) (replicate n 0) ≡ true
 no_classes zero = refl
@@ -126,7 +126,7 @@ module _ (L : HistoryLaws) (p : Profile) (es : List Entry) (ok : AreLawful p ope
       number_few (x.first % PAGE) x.size j l (omega arith) (eqb-true (slot_number x) j t.1)
 
   -- what is asked of a light tells which slot it is
-  pub asked_few : (c : ℕ) (pairs : List Pair) (classes : List ℕ) (b j expect : ℕ) → AreInOneHand st pairs → expect ≤ 1 → (expect ≡ 0 → 1 ≤ get_or classes b 0) → (expect ≡ 0 → j < slots_of (get_or classes b 0)) → (expect ≡ 1 → has_slot p (hand_in c pairs) b j ≡ true) → j < 1024
+  pub asked_few : (c : ℕ) (pairs : List Pair) (classes : List ℕ) (b j expect : ℕ) → AreInOneHand st pairs → expect ≤ 1 → (expect ≡ 0 → 1 ≤ get_or classes b 0) → (expect ≡ 0 → j < slots_of (get_or classes b 0)) → (expect ≡ 1 → has_slot p (hand_among c pairs) b j ≡ true) → j < 1024
   asked_few c pairs classes b j expect one kind settled there owned = elim (cases_Bool (expect == 0)) [
     | inl y ↦ let e = eqb-true expect 0 y in slot_few j (get_or classes b 0) (settled e) (there e)
     | inr n ↦
@@ -134,7 +134,7 @@ module _ (L : HistoryLaws) (p : Profile) (es : List Entry) (ok : AreLawful p ope
         live_few b j (owned_slot L p es ok pairs c b j one (owned e))
   ]
 
-  module _ (c : ℕ) (pairs : List Pair) (ws : List ℕ) (b j expect : ℕ) (one : AreInOneHand st pairs) (words : AreWords p st c pairs ws) (lb : b < p.nano) (lj : j < 1024) (kind : expect ≤ 1) (free : has_light (lights_from 0 ws) (light_at b j) ≡ false) (owned : expect ≡ 1 → has_slot p (hand_in c pairs) b j ≡ true) where
+  module _ (c : ℕ) (pairs : List Pair) (ws : List ℕ) (b j expect : ℕ) (one : AreInOneHand st pairs) (words : AreWords p st c pairs ws) (lb : b < p.nano) (lj : j < 1024) (kind : expect ≤ 1) (free : has_light (lights_from 0 ws) (light_at b j) ≡ false) (owned : expect ≡ 1 → has_slot p (hand_among c pairs) b j ≡ true) where
     abbrev w : ℕ
     w = get_or ws (b * 1024 + j) 0
 
@@ -142,18 +142,18 @@ module _ (L : HistoryLaws) (p : Profile) (es : List Entry) (ok : AreLawful p ope
     is_free = elim (cases_Bool (nat_lt w 2)) [ inl y ↦ y | inr z ↦ absurd (false≢true (sym free ∙ (light_of_slot b j ws lj ∙ ap not z))) ]
 
     pub tells : w ≡ one_for (is_slot_live p st b j)
-    tells = word_idle c w (is_slot_live p st b j) (has_slot p (hand_in c pairs) b j) is_free (words b j lb lj)
+    tells = word_idle c w (is_slot_live p st b j) (has_slot p (hand_among c pairs) b j) is_free (words b j lb lj)
 
     not_live : w ≡ 0 → is_slot_live p st b j ≡ false
     not_live e = elim (cases_Bool (is_slot_live p st b j)) [ inl y ↦ absurd (let z : 0 ≡ 1 = sym e ∙ (tells ∙ ap one_for y) in omega arith) | inr n ↦ n ]
 
-    pub not_owned : w ≡ 0 → has_slot p (hand_in c pairs) b j ≡ false
-    not_owned e = elim (cases_Bool (has_slot p (hand_in c pairs) b j)) [ inl y ↦ absurd (false≢true (sym (not_live e) ∙ owned_slot L p es ok pairs c b j one y)) | inr n ↦ n ]
+    pub not_owned : w ≡ 0 → has_slot p (hand_among c pairs) b j ≡ false
+    not_owned e = elim (cases_Bool (has_slot p (hand_among c pairs) b j)) [ inl y ↦ absurd (false≢true (sym (not_live e) ∙ owned_slot L p es ok pairs c b j one y)) | inr n ↦ n ]
 
-    pub held_word : w ≡ expect → is_word c (is_slot_live p st b j) (has_slot p (hand_in c pairs) b j) (2 + c) ≡ true
+    pub held_word : w ≡ expect → is_word c (is_slot_live p st b j) (has_slot p (hand_among c pairs) b j) (2 + c) ≡ true
     held_word e =
         let n : nat_lt (2 + c) 2 ≡ false = grind (arith, nat_tests) in
-        lit_word c (2 + c) (is_slot_live p st b j) (has_slot p (hand_in c pairs) b j) n refl
+        lit_word c (2 + c) (is_slot_live p st b j) (has_slot p (hand_among c pairs) b j) n refl
         (λ y. let z : expect ≡ 1 = sym e ∙ (tells ∙ ap one_for y) in owned z)
 
     -- the word of a live pair is as expected
@@ -166,8 +166,8 @@ module _ (L : HistoryLaws) (p : Profile) (es : List Entry) (ok : AreLawful p ope
     ]
 
   -- the holder of a light owns the pair exactly where it is live
-  pub lit_live : (c : ℕ) (pairs : List Pair) (ws : List ℕ) (b j : ℕ) → AreInOneHand st pairs → AreWords p st c pairs ws → b < p.nano → j < 1024 → has_light (lights_from 0 ws) (light_at b j) ≡ true → is_slot_live p st b j ≡ has_slot p (hand_in c pairs) b j
-  lit_live c pairs ws b j one words lb lj lit = same_bool (is_slot_live p st b j) (has_slot p (hand_in c pairs) b j) (lit_owned L p es ok c pairs ws b j words lb lj lit) (owned_slot L p es ok pairs c b j one)
+  pub lit_live : (c : ℕ) (pairs : List Pair) (ws : List ℕ) (b j : ℕ) → AreInOneHand st pairs → AreWords p st c pairs ws → b < p.nano → j < 1024 → has_light (lights_from 0 ws) (light_at b j) ≡ true → is_slot_live p st b j ≡ has_slot p (hand_among c pairs) b j
+  lit_live c pairs ws b j one words lb lj lit = same_bool (is_slot_live p st b j) (has_slot p (hand_among c pairs) b j) (lit_owned L p es ok c pairs ws b j words lb lj lit) (owned_slot L p es ok pairs c b j one)
 
 -- the word of a slot whose light is free
 pub free_word : (c : ℕ) (live owned : Bool) → is_word c live owned (one_for live) ≡ true
@@ -186,7 +186,7 @@ told_case c w live owned false e h = (word_lit c w live owned e h).0
 pub word_told : (p : Profile) (s : State) (c : ℕ) (pairs : List Pair) (ws : List ℕ) (b j : ℕ) → AreWords p s c pairs ws → b < p.nano → j < 1024 → get_or ws (b * 1024 + j) 0 ≡ cond (has_light (lights_from 0 ws) (light_at b j)) (2 + c) (one_for (is_slot_live p s b j))
 word_told p s c pairs ws b j words lb lj =
     let w = get_or ws (b * 1024 + j) 0 in
-    told_case c w (is_slot_live p s b j) (has_slot p (hand_in c pairs) b j) (nat_lt w 2) refl (words b j lb lj) ∙ ap (λ d. cond d (2 + c) (one_for (is_slot_live p s b j))) (sym (light_of_slot b j ws lj))
+    told_case c w (is_slot_live p s b j) (has_slot p (hand_among c pairs) b j) (nat_lt w 2) refl (words b j lb lj) ∙ ap (λ d. cond d (2 + c) (one_for (is_slot_live p s b j))) (sym (light_of_slot b j ws lj))
 
 pub no_class : (p : Profile) (s : State) (classes : List ℕ) → ((j : Rattle.mz_events.specs.Places.Spot) → (kept_at s j).live ≡ []) → AreOfClass p s classes
 no_class p s classes none b x lb h = absurd (false≢true (sym (ap (λ bs. has_block bs x) (none (nano_page (page_of_block p b)))) ∙ h))

@@ -17,7 +17,7 @@ use Rattle.mz_register.specs.declared.light.Light.{Light}
 use Rattle.mz_register.specs.declared.light.Asked.{Asked}
 use Rattle.mz_register.specs.declared.pair.Pair.{Pair}
 use Rattle.mz_register.specs.Keepers.{keeper_count, place_at, keeper_spot, is_held}
-use Rattle.mz_register.specs.Pairs.{hand_in, owners}
+use Rattle.mz_register.specs.Pairs.{hand_among, owners}
 use Rattle.mz_register.specs.Lights.{has_light, light_at, has_slot, is_slot_live}
 
 -- All that contracts see of a book.
@@ -62,7 +62,7 @@ holds_spot s j = is_held s.profile s.held j
 
 -- the pairs that the caller owns
 abbrev pub hand : Account → List Block
-hand s = hand_in s.caller s.pairs
+hand s = hand_among s.caller s.pairs
 
 -- the class of a block of nano, and 0 where the book knows of none
 abbrev pub class_of : Account → ℕ → ℕ

@@ -25,15 +25,20 @@ pub record CanHold (s : Account) (k : ℕ) : Type 0 where
   pub exists : k < keeper_count s.profile
   pub above_held : IsTrue (list_all (λ x. nat_lt x k) s.held)
 
--- Entries of others came, which touch no place held before; what the book knew of those stays. No duty stands at k's place.
-pub record Holds (s : Account) (k : ℕ) (t : Account) : Type 0 where
+-- The keeper of number k is held, and n is the count of holds now. Entries of others came, which touch no place held before; what
+-- the book knew of those stays. No duty stands at k's place.
+pub record Gains (s : Account) (k n : ℕ) (t : Account) : Type 0 where
   pub others : List Entry
   pub away : AreAway s.profile s.caller (holds_spot s) others
   pub alone : IsTrue s.between → others ≡ []
-  pub after : t ≡ record s { held = s.held ++ k ∷ []; seen = s.seen ++ others; holds = one_more s.holds }
+  pub after : t ≡ record s { held = s.held ++ k ∷ []; seen = s.seen ++ others; holds = n }
   pub stays : (j : Spot) → IsTrue (holds_spot s j) → known t j ≡ known s j
   pub zones : (z : ℕ) → is_open (state_of t) z ≡ is_open (state_of s) z
   pub calm : (known t (keeper_spot s.profile k)).duty ≡ None
+
+-- the keeper is gained, and the hold is counted
+abbrev pub Holds : Account → ℕ → Account → Type 0
+Holds s k t = Gains s k (one_more s.holds) t
 
 -- the event makes, ends, resizes or denies a block of nano
 abbrev pub is_at_nano : Event → Bool

@@ -42,9 +42,8 @@ pub record IsSame (s t : Account) : Type 0 where
   pub founds : t.founds ≡ s.founds
   pub found : t.found ≡ s.found
 
--- The record grew by just these entries, while others came, and n keepers at most were taken. Once an own entry touched a place
--- that has a keeper, or where it was held before, no other caller's entry touches it.
-pub record Grows (s : Account) (mine : List Entry) (n : ℕ) (t : Account) : Type 0 where
+-- the record grew by just these entries, while others came, and n holds at most were counted
+pub record Adds (s : Account) (mine : List Entry) (n : ℕ) (t : Account) : Type 0 where
   pub more : List Entry
   pub same : IsSame s t
   pub seen : t.seen ≡ s.seen ++ more
@@ -55,9 +54,13 @@ pub record Grows (s : Account) (mine : List Entry) (n : ℕ) (t : Account) : Typ
   pub spare : t.spare ≡ s.spare - length mine
   pub holds : t.holds ≤ s.holds + n
   pub zones : (z : ℕ) → is_open (state_of t) z ≡ is_open (state_of s) z
-  pub undisturbed : (q : Place) → IsTrue (is_undisturbed s.profile s.caller (keeper_at q) (holds_spot s (keeper_at q)) more)
+
+-- and once an own entry touched a place that has a keeper, or where it was held before, no other caller's entry touches it
+pub record Grows (s : Account) (mine : List Entry) (n : ℕ) (t : Account) : Type 0 where
+  pub adds : Adds s mine n t
+  pub undisturbed : (q : Place) → IsTrue (is_undisturbed s.profile s.caller (keeper_at q) (holds_spot s (keeper_at q)) adds.more)
 
 -- and each such place that was held before, or that an own entry touched, is still held
 pub record GrowsHolding (s : Account) (mine : List Entry) (n : ℕ) (t : Account) : Type 0 where
   pub grows : Grows s mine n t
-  pub still : (q : Place) → IsTrue (has_begun s.profile s.caller (keeper_at q) (holds_spot s (keeper_at q)) grows.more) → IsTrue (is_held s.profile t.held (keeper_at q))
+  pub still : (q : Place) → IsTrue (has_begun s.profile s.caller (keeper_at q) (holds_spot s (keeper_at q)) grows.adds.more) → IsTrue (is_held s.profile t.held (keeper_at q))

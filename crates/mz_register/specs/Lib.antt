@@ -1,5 +1,6 @@
 pub mod Keepers
 pub mod Pairs
+pub mod Owners
 pub mod Lights
 pub mod Account
 pub mod Calls
@@ -8,5 +9,6 @@ pub mod Plain
 pub mod Growth
 pub mod HistoryLaws
 pub mod Living
+pub mod Noting
 pub mod Client
 pub mod Toys

@@ -14,8 +14,8 @@ abbrev pub block_of : Pair → Block
 block_of h = block_at h.first h.size
 
 -- the hand of a caller, among the pairs of all
-abbrev pub hand_in : ℕ → List Pair → List Block
-hand_in c pairs = map block_of (filter (λ h. h.caller == c) pairs)
+abbrev pub hand_among : ℕ → List Pair → List Block
+hand_among c pairs = map block_of (filter (λ h. h.caller == c) pairs)
 
 -- the pair says that c owns the block
 abbrev pub is_pair : ℕ → Block → Pair → Bool

@@ -12,7 +12,7 @@ use Rattle.mz_events.specs.Changes.{one_for}
 use Rattle.mz_events.specs.Standing.{Keeping, Stands, stands_once}
 use Rattle.mz_register.specs.declared.pair.Pair.{Pair}
 use Rattle.mz_register.specs.Keepers.{keeper_count, place_at, keeper_spot, is_among}
-use Rattle.mz_register.specs.Pairs.{hand_in, owners}
+use Rattle.mz_register.specs.Pairs.{hand_among, owners}
 use Rattle.mz_register.specs.Lights.{slot_size, page_of_block, has_slot, is_slot_live}
 use Rattle.mz_register.specs.Account.{Account, is_live, state_of, holds_light, owns_slot}
 
@@ -45,7 +45,7 @@ is_word c live owned w = if nat_lt w 2 then w == one_for live else (w == 2 + c) 
 
 -- and so is each slot word
 abbrev pub AreWords : Profile → State → ℕ → List Pair → List ℕ → Type 0
-AreWords p s c pairs words = (b j : ℕ) → b < p.nano → j < 1024 → is_word c (is_slot_live p s b j) (has_slot p (hand_in c pairs) b j) (slice_index_or words (b * 1024 + j) 0) ≡ true
+AreWords p s c pairs words = (b j : ℕ) → b < p.nano → j < 1024 → is_word c (is_slot_live p s b j) (has_slot p (hand_among c pairs) b j) (slice_index_or words (b * 1024 + j) 0) ≡ true
 
 -- Of a plain book: its history, with what can still be noted, is bounded; each live block is in exactly one hand, and hands hold
 -- live blocks alone; the size of each live block of nano is that of its class; and a light whose pair is live is held only by the

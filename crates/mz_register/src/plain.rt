@@ -10,6 +10,7 @@ ghost use Rattle.mz_events.specs.Changes.{one_for};
 ghost use Rattle.mz_events.specs.Codes.{all_lawful_once};
 ghost use Rattle.mz_register.specs.Keepers.{keeper_count, keeper_spot, is_among};
 ghost use Rattle.mz_register.specs.Account.{is_ascending, StandsFor, HoldsNothing, class_of, slot_word, known};
+ghost use Rattle.mz_register.specs.Owners.{pairs_told};
 ghost use Rattle.mz_register.specs.Rule.{AreHome, AreInOneHand, AreOfClass, AreWords, KeepsRule, home_once, in_one_hand_once, of_class_once, words_once};
 ghost use Rattle.mz_register.specs.Plain.{site_of, last_site, StandAtFirst, opening_account, Reserves, ActsAs, CanGive, Gives};
 
@@ -17,8 +18,9 @@ use crate::book::Book;
 use crate::laws::live::live_blocks_after_an_event;
 use crate::laws::of_histories;
 use crate::light::{Asked, Found, Light};
-use crate::pair::{Pair, change, leave, pass_on};
+use crate::pair::{leave, own, set_owner};
 use mz_base::Profile;
+use mz_events::laws::separation::live_bytes_fit_the_space;
 use mz_events::{Entry, Event, Keep};
 use std::alloc::{AllocError, Global};
 use std::snapshot::Snapshot;
@@ -27,7 +29,8 @@ use std::sync::Wait;
 /// A book that owns all keepers, the whole history, all hands, and the class and slot words. It is used between rounds, when
 /// nobody else acts. It is a book for the caller that it acts as.
 ///
-/// The history has at most `limit` entries, for which there is room. `site` is the last keeper as it was first, for contracts alone: all
+/// The history has at most `limit` entries, for which there is room. `quanta` has for each quantum of the space the caller who owns the
+/// block that begins there: with the history it tells whose each live block is, and a call changes one byte of it at most. `site` is the last keeper as it was first, for contracts alone: all
 /// keepers are of its space.
 #[derive(Drop)]
 pub struct PlainBook<V: Keep> {
@@ -37,12 +40,12 @@ pub struct PlainBook<V: Keep> {
     limit: usize,
     held: Vec<usize>,
     keepers: Vec<Option<V>>,
-    pairs: Vec<Pair>,
+    pub(crate) quanta: Vec<u8>,
     classes: Vec<u64>,
     slots: Vec<u64>,
-    holds: u64,
-    founds: u64,
-    found: Option<Asked>,
+    pub(crate) holds: u64,
+    pub(crate) founds: u64,
+    pub(crate) found: Option<Asked>,
     site: Snapshot<V>,
     ghost limits: { IsWithinLimits profile } by { limits_once profile },
     ghost caller_in: { caller < profile.callers },
@@ -50,18 +53,18 @@ pub struct PlainBook<V: Keep> {
     ghost within: { length history.items ≤ limit },
     ghost limited: { limit ≤ vec_capacity history },
     ghost few: { limit ≤ 2 ^ 58 },
-    ghost pair_room: { length pairs.items + (limit - length history.items) ≤ vec_capacity pairs },
+    ghost quantum_count: { length quanta.items ≡ profile.pages * 1024 },
     ghost sized: { length keepers.items ≡ keeper_count profile },
     ghost held_room: { keeper_count profile ≤ vec_capacity held },
     ghost ascending: { is_ascending 0 held.items ≡ true },
     ghost below: { list_all (λ x. nat_lt x (keeper_count profile)) held.items ≡ true },
     ghost home: { AreHome V.keeping (site_of (V.keeping site.value)) profile (after_all profile opening history.items) held.items keepers.items } by { home_once V.keeping (site_of (V.keeping site.value)) profile (after_all profile opening history.items) held.items keepers.items },
-    ghost in_one_hand: { AreInOneHand (after_all profile opening history.items) pairs.items } by { in_one_hand_once (after_all profile opening history.items) pairs.items },
+    ghost in_one_hand: { AreInOneHand (after_all profile opening history.items) (pairs_told quanta.items history.items) } by { in_one_hand_once (after_all profile opening history.items) (pairs_told quanta.items history.items) },
     ghost class_count: { length classes.items ≡ profile.nano },
     ghost class_most: { list_all (λ c. nat_le c 16) classes.items ≡ true },
     ghost of_class: { AreOfClass profile (after_all profile opening history.items) classes.items } by { of_class_once profile (after_all profile opening history.items) classes.items },
     ghost slot_count: { length slots.items ≡ profile.nano * 1024 },
-    ghost words: { AreWords profile (after_all profile opening history.items) caller pairs.items slots.items } by { words_once profile (after_all profile opening history.items) caller pairs.items slots.items },
+    ghost words: { AreWords profile (after_all profile opening history.items) caller (pairs_told quanta.items history.items) slots.items } by { words_once profile (after_all profile opening history.items) caller (pairs_told quanta.items history.items) slots.items },
 }
 
 /// Where a slot's word stands: each block has 1,024.
@@ -84,7 +87,7 @@ impl<V: Keep> Book<V> for PlainBook<V> {
     ghost use Rattle.std.specs.Prelude.{refl};
     ghost use Rattle.mz_register.specs.Plain.{plain_account, few_noted, few_seen, at_most};
 
-    ghost account = { λ b. plain_account b.profile b.caller (site_of (V.keeping b.site.value)) b.history.items b.limit b.held.items b.pairs.items b.classes.items b.slots.items b.holds b.founds b.found };
+    ghost account = { λ b. plain_account b.profile b.caller (site_of (V.keeping b.site.value)) b.history.items b.limit b.held.items (pairs_told b.quanta.items b.history.items) b.classes.items b.slots.items b.holds b.founds b.found };
 
     fn caller(&self) -> u32 {
         self.caller
@@ -102,13 +105,14 @@ impl<V: Keep> Book<V> for PlainBook<V> {
     fn note(&mut self, e: Event) -> u64 {
         of_histories();
         live_blocks_after_an_event();
+        live_bytes_fit_the_space();
         let ticket = self.history.len() as u64;
         self.history.push_reserved(Entry {
             ticket,
             caller: self.caller,
             event: e,
         });
-        change(&mut self.pairs, self.caller, e);
+        own(&mut self.quanta, self.caller as u8, e);
         ticket
     }
 
@@ -202,7 +206,7 @@ impl<V: Keep> PlainBook<V> {
         self.slots[word_place(b, j)]
     }
 
-    /// Makes room for `n` entries more, and for the pairs that they may add. A history has at most 2^58
+    /// Makes room for `n` entries more. Pairs need none. A history has at most 2^58
     /// entries: for more there is no memory.
     pub fn reserve(&mut self, n: u64) -> Result<(), AllocError>
         ensures ok { OnOk result (Reserves (⟦<PlainBook<V> as Book<V>>⟧.account self.old) n (⟦<PlainBook<V> as Book<V>>⟧.account self.new)) }
@@ -215,7 +219,6 @@ impl<V: Keep> PlainBook<V> {
         let n = n as usize;
         if n > self.limit - len {
             self.history.reserve(n)?;
-            self.pairs.reserve(n)?;
             self.limit = len + n;
         }
         Ok(())
@@ -235,7 +238,10 @@ impl<V: Keep> PlainBook<V> {
         requires { CanGive (⟦<PlainBook<V> as Book<V>>⟧.account self.old) from to a }
         ensures { Gives (⟦<PlainBook<V> as Book<V>>⟧.account self.old) from to a (⟦<PlainBook<V> as Book<V>>⟧.account self.new) }
     {
-        pass_on(&mut self.pairs, from, to, a);
+        of_histories();
+        live_bytes_fit_the_space();
+        let _ = from;
+        set_owner(&mut self.quanta, a, to as u8);
     }
 
     /// The history and the room for more are at most 2^58 entries; each live block is in exactly one hand, and hands hold live blocks
@@ -245,7 +251,7 @@ impl<V: Keep> PlainBook<V> {
     {}
 
     /// With nothing held no duty stands anywhere, so the history is a lawful one.
-    pub fn is_settled(&self)
+    pub fn is_lawful(&self)
         requires { HoldsNothing (⟦<PlainBook<V> as Book<V>>⟧.account self.now) }
         ensures { IsLawfulHistory (⟦<PlainBook<V> as Book<V>>⟧.account self.now).profile (⟦<PlainBook<V> as Book<V>>⟧.account self.now).seen }
     {
@@ -265,6 +271,7 @@ impl<V: Keep + Drop> PlainBook<V> {
         let site = Snapshot::of(&keepers[last]);
         let held = Vec::with_capacity(alloc, keepers.len())?;
         let keepers = at_home(alloc, keepers)?;
+        let quanta = Vec::from_elem(alloc, 0, p.pages as usize * 1024)?;
         let classes = Vec::from_elem(alloc, 0, p.nano as usize)?;
         let slots = Vec::from_elem(alloc, 0, p.nano as usize * 1024)?;
         Ok(PlainBook {
@@ -274,7 +281,7 @@ impl<V: Keep + Drop> PlainBook<V> {
             limit: 0,
             held,
             keepers,
-            pairs: Vec::new(alloc),
+            quanta,
             classes,
             slots,
             holds: 0,

@@ -1,7 +1,7 @@
-use Rattle.std.proofs.Common.{◌≡◌, map, refl, ap, sym, subst, ◌∙◌}
+use Rattle.std.proofs.Common.{map, ap, sym, subst, ◌∙◌}
 use Rattle.mz_base.specs.Limits.{IsWithinLimits}
 use Rattle.mz_register.specs.Toys.{toy, toy_profile}
-use Rattle.mz_register.specs.Plain.{StandAtFirst, opening_account, last_site}
+use Rattle.mz_register.specs.Plain.{StandAtFirst}
 use Rattle.mz_register.proofs.ToyLemmas.{toys_stand, toy_limits, keeping_is}
 use Rattle.mz_register.proofs.tests.book_of_toys.Goals as goal
 

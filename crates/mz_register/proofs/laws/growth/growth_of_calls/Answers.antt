@@ -1,4 +1,4 @@
-use Rattle.mz_register.proofs.GrowthLemmas.{grows_nothing, grows_hold, grows_note, grows_joined, grows_ended, grows_release, grows_looked}
+use Rattle.mz_register.proofs.GrowthLemmas.{grows_nothing, grows_hold, grows_tried, grows_note, adds_joined, grows_joined, grows_ended, grows_release, grows_looked}
 use Rattle.mz_register.proofs.laws.growth.growth_of_calls.Goals as goal
 
 pub returns-clause-nothing : goal.returns-clause-nothing
@@ -6,6 +6,12 @@ returns-clause-nothing c = grows_nothing
 
 pub returns-clause-hold : goal.returns-clause-hold
 returns-clause-hold c = grows_hold c.of_histories.ensures
+
+pub returns-clause-gain : goal.returns-clause-gain
+returns-clause-gain c = grows_tried c.of_histories.ensures
+
+pub returns-clause-added : goal.returns-clause-added
+returns-clause-added c = adds_joined
 
 pub returns-clause-note : goal.returns-clause-note
 returns-clause-note c = grows_note c.of_histories.ensures

@@ -1,4 +1,5 @@
 use Rattle.mz_register.proofs.PairLemmas.{hand_is, hand_other}
+use Rattle.mz_register.proofs.HandLemmas.{hand_through_all}
 use Rattle.mz_register.proofs.laws.hands.hands_after_an_event.Goals as goal
 
 pub returns-clause-own : goal.returns-clause-own
@@ -6,3 +7,6 @@ returns-clause-own c = hand_is
 
 pub returns-clause-others : goal.returns-clause-others
 returns-clause-others c = hand_other
+
+pub returns-clause-through : goal.returns-clause-through
+returns-clause-through c = hand_through_all

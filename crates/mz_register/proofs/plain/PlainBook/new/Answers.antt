@@ -11,6 +11,7 @@ use Rattle.mz_register.specs.declared.light.Light.{Light}
 use Rattle.mz_register.specs.declared.pair.Pair.{Pair}
 use Rattle.mz_register.specs.Lights.{lights_from}
 use Rattle.mz_register.specs.Account.{Account}
+use Rattle.mz_register.specs.Owners.{pairs_told}
 use Rattle.mz_register.specs.Rule.{AreHome, AreInOneHand, AreOfClass, AreWords}
 use Rattle.mz_register.specs.Plain.{opening_account, site_of, last_site}
 use Rattle.mz_register.proofs.HomeLemmas.{open_home, last_site_is, lawful_none, open_live, open_hands}
@@ -51,7 +52,10 @@ invariant_of-result-clause-home g c =
 pub invariant_of-result-clause-in_one_hand : goal.invariant_of-result-clause-in_one_hand
 invariant_of-result-clause-in_one_hand g c =
     let p = c.args.p.now in
-    subst (λ es. AreInOneHand (after_all p opening es) c.new-2.result.items) (sym c.new.ensures.items) (subst (λ ps. AreInOneHand (after_all p opening []) ps) (sym c.new-2.ensures.items) (open_hands p))
+    subst (λ es. AreInOneHand (after_all p opening es) (pairs_told c.in_ok-quanta.quanta.items es)) (sym c.new.ensures.items) (open_hands p)
+
+pub invariant_of-result-clause-quantum_count : goal.invariant_of-result-clause-quantum_count
+invariant_of-result-clause-quantum_count g c = sym c.in_ok-quanta.quanta.ok.0 ∙ c.in_ok-quanta.ensures.len
 
 pub invariant_of-result-clause-class_count : goal.invariant_of-result-clause-class_count
 invariant_of-result-clause-class_count g c = sym c.in_ok-classes.classes.ok.0 ∙ c.in_ok-classes.ensures.len
@@ -71,8 +75,8 @@ pub invariant_of-result-clause-words : goal.invariant_of-result-clause-words
 invariant_of-result-clause-words g c =
     let p = c.args.p.now in
     let zeros = c.in_ok-slots.ensures.items_if_clones_equal (λ y e. e) in
-    subst (λ es. AreWords p (after_all p opening es) 0 c.new-2.result.items c.in_ok-slots.slots.items) (sym c.new.ensures.items)
-    (subst (λ ws. AreWords p (after_all p opening []) 0 c.new-2.result.items ws) (sym zeros) (no_words p (after_all p opening []) 0 c.new-2.result.items (p.nano * 1024) (open_live p)))
+    subst (λ es. AreWords p (after_all p opening es) 0 (pairs_told c.in_ok-quanta.quanta.items es) c.in_ok-slots.slots.items) (sym c.new.ensures.items)
+    (subst (λ ws. AreWords p (after_all p opening []) 0 [] ws) (sym zeros) (no_words p (after_all p opening []) 0 [] (p.nano * 1024) (open_live p)))
 
 pub returns : goal.returns
 returns g c =
@@ -86,9 +90,8 @@ returns g c =
     let f : Site → List Entry → List ℕ → List Pair → List ℕ → List Light → Account = λ x es held ps cs ls. record s { site = x; seen = es; noted = own 0 es; spare = 0 - length es; held = held; pairs = ps; settled = cs; lights = ls } in
     let x = site_of (keeping c.of-site.result.value) in
     let dark : lights_from 0 c.in_ok-slots.slots.items ≡ [] = ap (lights_from 0) (c.in_ok-slots.ensures.items_if_clones_equal (λ y e. e)) ∙ no_lights 0 (p.nano * 1024) in
-    ap (λ es. f x es c.in_ok-held.held.items c.new-2.result.items c.in_ok-classes.classes.items (lights_from 0 c.in_ok-slots.slots.items)) c.new.ensures.items
-    ∙ (ap (λ held. f x [] held c.new-2.result.items c.in_ok-classes.classes.items (lights_from 0 c.in_ok-slots.slots.items)) c.in_ok-held.ensures.items
-    ∙ (ap (λ ps. f x [] [] ps c.in_ok-classes.classes.items (lights_from 0 c.in_ok-slots.slots.items)) c.new-2.ensures.items
+    ap (λ es. f x es c.in_ok-held.held.items (pairs_told c.in_ok-quanta.quanta.items es) c.in_ok-classes.classes.items (lights_from 0 c.in_ok-slots.slots.items)) c.new.ensures.items
+    ∙ (ap (λ held. f x [] held [] c.in_ok-classes.classes.items (lights_from 0 c.in_ok-slots.slots.items)) c.in_ok-held.ensures.items
     ∙ (ap (λ cs. f x [] [] [] cs (lights_from 0 c.in_ok-slots.slots.items)) (c.in_ok-classes.ensures.items_if_clones_equal (λ y e. e))
     ∙ (ap (λ ls. f x [] [] [] (replicate p.nano 0) ls) dark
-    ∙ ap (λ y. f y [] [] [] (replicate p.nano 0) []) (sym last)))))
+    ∙ ap (λ y. f y [] [] [] (replicate p.nano 0) []) (sym last))))

@@ -3,6 +3,7 @@ use Rattle.mz_events.specs.State.{opening}
 use Rattle.mz_events.specs.History.{after_all}
 use Rattle.mz_register.proofs.HomeLemmas.{get_or_any}
 use Rattle.mz_register.proofs.WordLemmas.{word_told}
+use Rattle.mz_register.specs.Owners.{pairs_told}
 use Rattle.mz_register.proofs.plain.PlainBook.slot_word.Goals as goal
 
 pub word_place-requires-clause-block : goal.word_place-requires-clause-block
@@ -17,4 +18,4 @@ returns g c =
     let ws = b.slots.items in
     let in_range : c.args.b * 1024 + c.args.j < length ws = omega (arith, b.slot_count, c.requires.block, c.requires.slot) in
     let w : get_or ws (c.args.b * 1024 + c.args.j) 0 ≡ c.index.result.now = get_or_any ws (c.args.b * 1024 + c.args.j) 0 c.index.result.now in_range ∙ (ap (λ i. get_or ws i c.index.result.now) (sym c.word_place.ensures) ∙ sym c.index.ensures) in
-    sym w ∙ word_told b.profile (after_all b.profile opening b.history.items) b.caller b.pairs.items ws c.args.b c.args.j b.words c.requires.block c.requires.slot
+    sym w ∙ word_told b.profile (after_all b.profile opening b.history.items) b.caller (pairs_told b.quanta.items b.history.items) ws c.args.b c.args.j b.words c.requires.block c.requires.slot

@@ -9,6 +9,7 @@ use Rattle.mz_register.specs.Account.{Account}
 use Rattle.mz_register.specs.Plain.{plain_account, site_of}
 use Rattle.mz_register.proofs.HeldLemmas.{above_absent, ascending_snoc, all_snoc, ascending_few}
 use Rattle.mz_register.proofs.HomeLemmas.{hold_home, not_none, some_at, none_duty, get_or_any}
+use Rattle.mz_register.specs.Owners.{pairs_told}
 use Rattle.mz_register.proofs.plain.PlainBookBook.hold.Goals as goal
 
 pub push_reserved-requires : goal.push_reserved-requires
@@ -50,7 +51,7 @@ pub returns-clause-holds : goal.returns-clause-holds
 returns-clause-holds g c =
     let b = c.args.self.now in
     let at = (b.home c.args.k c.requires.exists).0 (above_absent c.args.k b.held.items c.requires.above_held) in
-    let s = plain_account b.profile b.caller (site_of (g.V.Keep.keeping b.site.value)) b.history.items b.limit b.held.items b.pairs.items b.classes.items b.slots.items b.holds b.founds b.found in
+    let s = plain_account b.profile b.caller (site_of (g.V.Keep.keeping b.site.value)) b.history.items b.limit b.held.items (pairs_told b.quanta.items b.history.items) b.classes.items b.slots.items b.holds b.founds b.found in
     let f : List ℕ → List Entry → ℕ → Account = λ h e n. record s { held = h; seen = e; holds = n } in
     record {
       others = [];

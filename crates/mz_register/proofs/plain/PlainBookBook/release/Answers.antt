@@ -6,6 +6,7 @@ use Rattle.mz_register.specs.Account.{Account}
 use Rattle.mz_register.specs.Plain.{plain_account, site_of}
 use Rattle.mz_register.proofs.HeldLemmas.{ascending_without, all_without, among_below}
 use Rattle.mz_register.proofs.HomeLemmas.{release_home, none_some, get_or_any}
+use Rattle.mz_register.specs.Owners.{pairs_told}
 use Rattle.mz_register.proofs.plain.PlainBookBook.release.Goals as goal
 
 pub index_mut-requires : goal.index_mut-requires
@@ -43,6 +44,6 @@ unreachable-requires g c =
 pub returns : goal.returns
 returns g c =
     let b = c.args.self.now in
-    let s = plain_account b.profile b.caller (site_of (g.V.Keep.keeping b.site.value)) b.history.items b.limit b.held.items b.pairs.items b.classes.items b.slots.items b.holds b.founds b.found in
+    let s = plain_account b.profile b.caller (site_of (g.V.Keep.keeping b.site.value)) b.history.items b.limit b.held.items (pairs_told b.quanta.items b.history.items) b.classes.items b.slots.items b.holds b.founds b.found in
     let f : List ℕ → Account = λ h. record s { held = h } in
     record { after = ap f c.leave.ensures.items }

@@ -8,6 +8,7 @@ use Rattle.mz_register.specs.Plain.{plain_account, site_of}
 use Rattle.mz_register.proofs.HomeLemmas.{get_or_any}
 use Rattle.mz_register.proofs.PlainLemmas.{class_few}
 use Rattle.mz_register.proofs.WordLemmas.{classes_set, same_class}
+use Rattle.mz_register.specs.Owners.{pairs_told}
 use Rattle.mz_register.proofs.plain.PlainBookBook.settle.Goals as goal
 use Rattle.mz_register.proofs.plain.PlainBookBook.settle.Goals.{then-word-eq0-via-then-word-eq0, then-word-eq0-via-else-word-eq0+then-word-class}
 
@@ -50,7 +51,7 @@ returns g c =
     let below : c.args.b < length cs = subst (λ n. c.args.b < n) (sym b.class_count) c.requires.below in
     let at : get_or cs c.args.b 0 ≡ c.index-word.result.now = get_or_any cs c.args.b 0 c.index-word.result.now below ∙ sym c.index-word.ensures in
     let few = class_few cs c.args.b b.class_most in
-    let s = plain_account b.profile b.caller (site_of (g.V.Keep.keeping b.site.value)) b.history.items b.limit b.held.items b.pairs.items b.classes.items b.slots.items b.holds b.founds b.found in
+    let s = plain_account b.profile b.caller (site_of (g.V.Keep.keeping b.site.value)) b.history.items b.limit b.held.items (pairs_told b.quanta.items b.history.items) b.classes.items b.slots.items b.holds b.founds b.found in
     let f : ℕ → Account = λ n. record s { founds = n; found = Some (Settle c.args.b c.args.class) } in
     record {
       some = omega (arith, c.if-word-eq0.false);

@@ -3,7 +3,7 @@ use Rattle.mz_events.specs.State.{opening, value_at}
 use Rattle.mz_events.specs.History.{after_all}
 use Rattle.mz_register.specs.Keepers.{keeper_count, keeper_spot, is_among}
 use Rattle.mz_register.proofs.DutyLemmas.{all_calm}
-use Rattle.mz_register.proofs.plain.PlainBook.is_settled.Goals as goal
+use Rattle.mz_register.proofs.plain.PlainBook.is_lawful.Goals as goal
 
 pub returns : goal.returns
 returns g c =

@@ -1,0 +1,10 @@
+mod ListLemmas
+mod Counts
+mod Frames
+mod Knowing
+mod LockSteps
+mod NanoSteps
+mod PairLemmas
+mod DrawSteps
+mod SeatSteps
+mod OpenSteps

@@ -1,0 +1,4 @@
+mod KeyLemmas
+mod SpotLemmas
+mod SlotLemmas
+pub mod RunLemmas

@@ -1,0 +1,13 @@
+mod BookLemmas
+mod BreachLemmas
+mod RunLists
+mod SoundLemmas
+mod ReadyLemmas
+mod AfterLemmas
+mod ApplyLemmas
+mod SortLemmas
+mod AuditLemmas
+mod InLists
+mod SpotLemmas
+mod ListLemmas
+mod BeyondLemmas

@@ -4,6 +4,7 @@
 //! - `row`: its regions, by address.
 //! - `search`: what is looked for over all regions.
 //! - `member`: a region of a row, with what it was last found unable to serve.
+//! - `laws`: what the definitions mean, as a contract of a function that does nothing.
 //!
 //! ```text
 //! address   0          L          2 L         ..       5 L
@@ -24,6 +25,7 @@
 //! a region isn't whole pages, clauses that say where something lies don't speak of it.
 #![tactic(auto)]
 
+pub mod laws;
 mod magazine;
 mod member;
 mod row;

@@ -1,0 +1,15 @@
+mod Steps
+mod Trying
+mod Listed
+mod RoomLemmas
+mod Moving
+mod Tidying
+mod MovingOver
+mod Taking
+mod ShelfLemmas
+mod Undisturbed
+mod Answered
+mod KeeperLemmas
+mod StockLemmas
+mod OpeningLemmas
+mod MomentLemmas

@@ -1,0 +1,218 @@
+-- What a run of the free pages is, and what is left of them without it.
+use Rattle.std.proofs.Common.{◌≡◌, ◌⊎◌, ℕ, ◌+◌, ◌-◌, ◌/◌, ◌%◌, ◌<◌, ◌≤◌, ◌==◌, Bool, true, false, not, List, [], ◌∷◌, None, refl, ap, sym, subst, ◌∙◌, inl, inr, arith, get_or}
+use Rattle.std.specs.Prelude.{nat_lt, nat_le, ◌&&◌, ◌||◌, length}
+use Rattle.std.specs.List.{list_any, list_all}
+use Rattle.std.proofs.Math.Nat.{mul-mod_left}
+use Rattle.std.proofs.lemmas.Bool.{and_parts, and_from, and_left, and_right, cases_Bool, cases_lt, false≢true, false_from_ne_true, eqb-true, eq-eqb, leb-true, le-leb, lt-leb, lt-ltb, le-ltb, or_cases, or_left, or_right, or_from, or_parts, not-true, not_from_false, not_from_true}
+use Rattle.std.proofs.lemmas.List.FromFn.{length-map-range_with_len, get_or-map-range_with_len, fill_by_all}
+use Rattle.mz_base.specs.declared.profile.Profile.{Profile}
+use Rattle.mz_base.specs.declared.range.TheConstants.{PAGE}
+use Rattle.mz_base.specs.Site.{Site}
+use Rattle.mz_base.specs.Space.{Run, run_at, run_end, runs_apart, least_multiple, units_for}
+use Rattle.mz_base.specs.Lists.{add_run}
+use Rattle.mz_base.specs.Room.{is_free, run_from, page_starts, has_free, is_lowest_free}
+use Rattle.mz_bits.specs.Runs.{with_run, HasRun}
+use Rattle.mz_ground.specs.Views.{SpanView}
+use Rattle.mz_region.specs.Views.{RegionView}
+use Rattle.mz_pages.specs.FreeRuns.{IsFree, HasNoFree, IsLowestFree}
+use Rattle.mz_pages.specs.Pages.{PagesView, first_page, Takes}
+use Rattle.mz_events.specs.declared.place.Place.{Place}
+use Rattle.mz_events.specs.declared.place.Place.TheVariants.{Pages, Tiny, Small}
+use Rattle.mz_events.specs.Places.{is_magazine, is_length_of, is_tiny, is_small, quantum_of, nano_start}
+use Rattle.mz_events.specs.State.{Kept}
+use Rattle.mz_events.specs.Changes.{one_for, pages_without}
+use Rattle.mz_events.specs.Separation.{InOrder, has_page}
+use Rattle.mz_events.specs.Standing.{PagesKept, Keeping, Stands, StandsForPages, free_pages}
+use Rattle.mz_rack.specs.declared.keeper.Kind.{Kind}
+use Rattle.mz_rack.specs.declared.keeper.Kind.TheVariants as kind
+use Rattle.mz_rack.specs.Kinds.{keeping_of}
+use Rattle.mz_rack.specs.Answering.{Cut}
+use Rattle.mz_rack.proofs.RoomLemmas.{insert_nil, insert_here, insert_later, any_inserted}
+
+-- the page is in one of these runs
+abbrev has : List Run → ℕ → Bool
+has taken k = list_any (λ r. has_page r k) taken
+
+free_at : (p : Profile) (taken : List Run) (k : ℕ) (d : Bool) → k < nano_start p → get_or (free_pages p taken) k d ≡ not (has taken k)
+free_at p taken k d h = get_or-map-range_with_len (λ i. not (has taken i)) 0 (nano_start p) k k d h (omega arith)
+
+count_free : (p : Profile) (taken : List Run) → length (free_pages p taken) ≡ nano_start p
+count_free p taken = length-map-range_with_len (λ i. not (has taken i)) 0 (nano_start p)
+
+-- FREE: the pages of a run that is apart from all that are taken are free, and the other way round
+apart_has : (g w k : ℕ) (t : Run) → runs_apart t (run_at g w) ≡ true → g ≤ k → k < g + w → has_page t k ≡ false
+apart_has g w k t h low high =
+    elim (or_cases (nat_le (run_end t) g) (nat_le (g + w) t.first) h) [
+      | inl y ↦ let below = leb-true (run_end t) g y in and_right (nat_le t.first k) (nat_lt k (run_end t)) (le-ltb k (run_end t) (omega (arith, below)))
+      | inr y ↦ let above = leb-true (g + w) t.first y in and_left (nat_le t.first k) (nat_lt k (run_end t)) (lt-leb t.first k (omega (arith, above)))
+    ]
+
+none_has : (g w k : ℕ) (taken : List Run) → list_all (λ t. runs_apart t (run_at g w)) taken ≡ true → g ≤ k → k < g + w → has taken k ≡ false
+none_has g w k [] h low high = refl
+none_has g w k (t ∷ ts) h low high =
+    let parts = and_parts (runs_apart t (run_at g w)) (list_all (λ y. runs_apart y (run_at g w)) ts) h in
+    or_from (has_page t k) (has ts k) (apart_has g w k t parts.0 low high) (none_has g w k ts parts.1 low high)
+
+free_then : (p : Profile) (taken : List Run) (g w : ℕ) → is_free (nano_start p) taken (run_at g w) ≡ true → IsFree 0 (free_pages p taken) g w
+free_then p taken g w h =
+    let parts = and_parts (nat_le (g + w) (nano_start p)) (list_all (λ t. runs_apart t (run_at g w)) taken) h in
+    let top = leb-true (g + w) (nano_start p) parts.0 in
+    let count = count_free p taken in
+    record {
+      above = omega arith;
+      below = omega (arith, top, count);
+      each = λ k d low high. free_at p taken k d (omega (arith, top, low, high)) ∙ not_from_false (has taken k) (none_has g w k taken parts.1 (omega (arith, low)) (omega (arith, high)));
+    }
+
+has_one : (t : Run) (k : ℕ) → t.first ≤ k → k < run_end t → has_page t k ≡ true
+has_one t k low high = and_from (nat_le t.first k) (nat_lt k (run_end t)) (le-leb t.first k low) (lt-ltb k (run_end t) high)
+
+apart_where : (g w : ℕ) (t : Run) → 1 ≤ w → t.first < run_end t → ((k : ℕ) → g ≤ k → k < g + w → has_page t k ≡ false) → runs_apart t (run_at g w) ≡ true
+apart_where g w t some order none =
+    elim (cases_lt g (run_end t)) [
+      | inr over ↦ or_left (nat_le (run_end t) g) (nat_le (g + w) t.first) (le-leb (run_end t) g over)
+      | inl under ↦ elim (cases_lt t.first (g + w)) [
+        | inr above ↦ or_right (nat_le (run_end t) g) (nat_le (g + w) t.first) (le-leb (g + w) t.first above)
+        | inl meets ↦ elim (cases_lt g t.first) [
+          | inl later ↦ absurd (false≢true (sym (none t.first (omega (arith, later)) meets) ∙ has_one t t.first (omega arith) order))
+          | inr early ↦ absurd (false≢true (sym (none g (omega arith) (omega (arith, some))) ∙ has_one t g early under))
+        ]
+      ]
+    ]
+
+all_apart : (g w : ℕ) (taken : List Run) → 1 ≤ w → InOrder (λ r. r.first) run_end taken → ((k : ℕ) → g ≤ k → k < g + w → has taken k ≡ false) → list_all (λ t. runs_apart t (run_at g w)) taken ≡ true
+all_apart g w [] some order none = refl
+all_apart g w (t ∷ ts) some order none =
+    and_from (runs_apart t (run_at g w)) (list_all (λ y. runs_apart y (run_at g w)) ts)
+    (apart_where g w t some order.0 (λ k low high. (or_parts (has_page t k) (has ts k) (none k low high)).0))
+    (all_apart g w ts some order.2 (λ k low high. (or_parts (has_page t k) (has ts k) (none k low high)).1))
+
+free_now : (p : Profile) (taken : List Run) (g w : ℕ) → 1 ≤ w → InOrder (λ r. r.first) run_end taken → IsFree 0 (free_pages p taken) g w → is_free (nano_start p) taken (run_at g w) ≡ true
+free_now p taken g w some order h =
+    let count = count_free p taken in
+    let below = h.below in
+    let top : g + w ≤ nano_start p = omega (arith, below, count) in
+    and_from (nat_le (g + w) (nano_start p)) (list_all (λ t. runs_apart t (run_at g w)) taken) (le-leb (g + w) (nano_start p) top)
+    (all_apart g w taken some order (λ k low high. not-true (has taken k) (sym (free_at p taken k true (omega (arith, top, high))) ∙ h.each k true (omega (arith, low)) (omega (arith, high)))))
+
+-- LOWEST
+none_any : (f : ℕ → Bool) (xs : List ℕ) → ((x : ℕ) → f x ≡ true → ⊥) → list_any f xs ≡ false
+none_any f [] h = refl
+none_any f (x ∷ xs) h = or_from (f x) (list_any f xs) (false_from_ne_true (f x) (h x)) (none_any f xs h)
+
+all_of : (f : ℕ → Bool) (xs : List ℕ) → ((x : ℕ) → f x ≡ true) → list_all f xs ≡ true
+all_of f [] h = refl
+all_of f (x ∷ xs) h = and_from (f x) (list_all f xs) (h x) (all_of f xs h)
+
+none_free : (p : Profile) (taken : List Run) (w : ℕ) → HasNoFree 0 (free_pages p taken) w w → has_free (nano_start p) taken w w ≡ false
+none_free p taken w none =
+    none_any (λ x. is_free (nano_start p) taken (run_from w w x)) (page_starts taken)
+    (λ x y. none (least_multiple w x) (mul-mod_left (units_for w x) w) (free_then p taken (least_multiple w x) w y))
+
+lowest_now : (p : Profile) (taken : List Run) (w f : ℕ) → 1 ≤ w → InOrder (λ r. r.first) run_end taken → IsLowestFree 0 (free_pages p taken) w w f → is_lowest_free (nano_start p) taken (run_at f w) w ≡ true
+lowest_now p taken w f some order low =
+    let top = nano_start p in
+    and_from ((f % w == 0) && is_free top taken (run_at f w)) (list_all (λ x. nat_le f (least_multiple w x) || not (is_free top taken (run_from w w x))) (page_starts taken))
+    (and_from (f % w == 0) (is_free top taken (run_at f w)) (eq-eqb (f % w) 0 low.aligned) (free_now p taken f w some order low.is_free))
+    (all_of (λ x. nat_le f (least_multiple w x) || not (is_free top taken (run_from w w x))) (page_starts taken)
+    (λ x. elim (cases_Bool (is_free top taken (run_from w w x))) [
+      | inl y ↦ or_left (nat_le f (least_multiple w x)) (not (is_free top taken (run_from w w x))) (le-leb f (least_multiple w x) (low.lowest (least_multiple w x) (mul-mod_left (units_for w x) w) (free_then p taken (least_multiple w x) w y)))
+      | inr n ↦ or_right (nat_le f (least_multiple w x)) (not (is_free top taken (run_from w w x))) (not_from_false (is_free top taken (run_from w w x)) n)
+    ]))
+
+-- LEFT: the pages without the run
+not_added : (k : ℕ) (r : Run) (taken : List Run) → has_page r k ≡ false → has (add_run r taken) k ≡ has taken k
+not_added k r [] n = ap (λ xs. has xs k) (insert_nil (λ (t : Run). t.first) r) ∙ ap (λ b. b || false) n
+not_added k r (y ∷ ys) n =
+    elim (cases_Bool (nat_lt r.first y.first)) [
+      | inl less ↦ ap (λ xs. has xs k) (insert_here (λ (t : Run). t.first) r y ys less) ∙ ap (λ b. b || has (y ∷ ys) k) n
+      | inr more ↦ ap (λ xs. has xs k) (insert_later (λ (t : Run). t.first) r y ys more) ∙ ap (λ b. has_page y k || b) (not_added k r ys n)
+    ]
+
+in_or_out : (f w k : ℕ) → ((f ≤ k) × (k < f + w)) ⊎ ((k < f) ⊎ (f + w ≤ k))
+in_or_out f w k =
+    elim (cases_lt k f) [
+      | inl l ↦ inr (inl l)
+      | inr g ↦ elim (cases_lt k (f + w)) [ inl l ↦ inl (g, l) | inr m ↦ inr (inr m) ]
+    ]
+
+out_of : (f w k : ℕ) → (k < f) ⊎ (f + w ≤ k) → has_page (run_at f w) k ≡ false
+out_of f w k (inl low) = and_left (nat_le f k) (nat_lt k (f + w)) (lt-leb f k low)
+out_of f w k (inr high) = and_right (nat_le f k) (nat_lt k (f + w)) (le-ltb k (f + w) high)
+
+abbrev pub RunsAreRead : Type 0
+RunsAreRead = (bits : List Bool) (i n : ℕ) (v : Bool) → i + n ≤ length bits → HasRun bits (with_run bits i n v) i n v
+
+free_left : RunsAreRead → (p : Profile) (taken : List Run) (f w : ℕ) → f + w ≤ nano_start p → with_run (free_pages p taken) f w false ≡ free_pages p (add_run (run_at f w) taken)
+free_left law p taken f w top =
+    let free = free_pages p taken in
+    let r = run_at f w in
+    let count = count_free p taken in
+    let run = law free f w false (omega (arith, top, count)) in
+    fill_by_all (λ i. not (has (add_run r taken) i)) (with_run free f w false) (nano_start p) true (run.count ∙ count)
+    (λ k below. elim (in_or_out f w k) [
+      | inl inside ↦ run.inside k true inside.0 inside.1 ∙ sym (not_from_true (has (add_run r taken) k) (any_inserted (λ t. has_page t k) (λ (t : Run). t.first) r taken (has_one r k inside.0 inside.1)))
+      | inr out ↦ run.outside k true out ∙ free_at p taken k true below ∙ ap not (sym (not_added k r taken (out_of f w k out)))
+    ])
+
+-- THE KEEPER
+pub of_stock : (i : Kind) (v u : PagesKept) (n : Keeping) → keeping_of i ≡ n → i ≡ kind.Pages v → u ≡ v → (x : Site) (p : Profile) (q : Place) (k : Kept) → Stands n x p q k → StandsForPages u x p q k
+of_stock i v u n view is inside x p q k s = subst (λ a. StandsForPages a x p q k) (sym inside) (subst (λ j. Stands (keeping_of j) x p q k) is (subst (λ j. Stands j x p q k) (sym view) s))
+
+abbrev pub stock_of : PagesView → ℕ → ℕ → PagesKept
+stock_of a n m = record { space = a.space; free = a.free; tiny_blanks = n; small_blanks = m }
+
+pub cut_none : (x : Site) (p : Profile) (q : Place) (k : Kept) (w : ℕ) (b a : PagesView) (n m : ℕ) → b.first ≡ 0 → StandsForPages (stock_of b n m) x p Pages k → HasNoFree b.first b.free w w → a ≡ b
+    → Cut x p q k w (λ j. StandsForPages (stock_of a n m) x p Pages j) None
+cut_none x p q k w b a n m first s none same =
+    (none_free p k.taken w (subst (λ l. HasNoFree 0 l w w) s.free (subst (λ f. HasNoFree f b.free w w) first none)), subst (λ c. StandsForPages (stock_of c n m) x p Pages k) (sym same) s)
+
+lowest_in : (x : Site) (p : Profile) (k : Kept) (w f : ℕ) (b : PagesView) (n m : ℕ) → b.first ≡ 0 → StandsForPages (stock_of b n m) x p Pages k → IsLowestFree b.first b.free w w f → IsLowestFree 0 (free_pages p k.taken) w w f
+lowest_in x p k w f b n m first s low = subst (λ l. IsLowestFree 0 l w w f) s.free (subst (λ g. IsLowestFree g b.free w w f) first low)
+
+-- the run that was taken was free
+pub was_free : (x : Site) (p : Profile) (k : Kept) (w : ℕ) (b a : PagesView) (n m : ℕ) (s : SpanView) → b.first ≡ 0 → StandsForPages (stock_of b n m) x p Pages k → 1 ≤ w → InOrder (λ r. r.first) run_end k.taken → Takes b a w w s
+    → is_free (nano_start p) k.taken (run_at (first_page s) w) ≡ true
+was_free x p k w b a n m s first st some order takes = free_now p k.taken (first_page s) w some order (lowest_in x p k w (first_page s) b n m first st takes.lowest).is_free
+
+pub record CutOut (x : Site) (p : Profile) (q : Place) (k : Kept) (w : ℕ) (u : PagesKept) (t : RegionView) : Type 0 where
+  pub space : t.space ≡ x
+  pub lowest : is_lowest_free (nano_start p) k.taken (run_at (t.first / PAGE) w) w ≡ true
+  pub left : StandsForPages u x p Pages (pages_without q (run_at (t.first / PAGE) w) k)
+
+pub cut_out : RunsAreRead → (x : Site) (p : Profile) (q : Place) (k : Kept) (w : ℕ) (b a : PagesView) (n m i j : ℕ) (s : SpanView) (t : RegionView) → b.first ≡ 0 → StandsForPages (stock_of b n m) x p Pages k → 1 ≤ w
+    → InOrder (λ r. r.first) run_end k.taken → Takes b a w w s → t.space ≡ s.space → t.first ≡ s.first → n ≡ i + one_for (is_tiny q) → m ≡ j + one_for (is_small q) → CutOut x p q k w (stock_of a i j) t
+cut_out law x p q k w b a n m i j s t first st some order takes of_s at tiny small =
+    let f = first_page s in
+    let low = lowest_in x p k w f b n m first st takes.lowest in
+    let count = count_free p k.taken in
+    let below = low.is_free.below in
+    let top : f + w ≤ nano_start p = omega (arith, below, count) in
+    let page : t.first / PAGE ≡ f = ap (λ y. y / PAGE) at in
+    let from : f - b.first ≡ f = omega (arith, first) in
+    let free : a.free ≡ free_pages p (add_run (run_at f w) k.taken) =
+    ap (λ (y : PagesView). y.free) takes.left ∙ ap (λ y. with_run b.free y w false) from ∙ ap (λ l. with_run l f w false) st.free ∙ free_left law p k.taken f w top in
+    let was_tiny = st.tiny in
+    let was_small = st.small in
+    record {
+      space = of_s ∙ takes.run.within ∙ st.space;
+      lowest = subst (λ g. is_lowest_free (nano_start p) k.taken (run_at g w) w ≡ true) (sym page) (lowest_now p k.taken w f some order low);
+      left = subst (λ g. StandsForPages (stock_of a i j) x p Pages (pages_without q (run_at g w) k)) (sym page) (record {
+        kind = st.kind;
+        space = ap (λ (y : PagesView). y.space) takes.left ∙ st.space;
+        free = free;
+        tiny = omega (arith, was_tiny, tiny);
+        small = omega (arith, was_small, small);
+      });
+    }
+
+-- PLACES: of the two lengths
+pub tiny_place : (q : Place) (w : ℕ) → is_magazine q ≡ true → is_length_of q w ≡ true → w ≡ 64 → (is_tiny q ≡ true) × (is_small q ≡ false) × (quantum_of q ≡ 16)
+tiny_place (Tiny z m) w h l e = (refl, refl, refl)
+tiny_place (Small z m) w h l e = let other = eqb-true w 512 l in absurd (omega (arith, other, e))
+tiny_place _ w h l e = absurd (false≢true h)
+
+pub small_place : (q : Place) (w : ℕ) → is_magazine q ≡ true → is_length_of q w ≡ true → (w ≡ 64 → ⊥) → (is_tiny q ≡ false) × (is_small q ≡ true) × (quantum_of q ≡ 512) × (w ≡ 512)
+small_place (Tiny z m) w h l e = absurd (e (eqb-true w 64 l))
+small_place (Small z m) w h l e = (refl, refl, refl, eqb-true w 512 l)
+small_place _ w h l e = absurd (false≢true h)

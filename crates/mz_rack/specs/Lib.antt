@@ -1,0 +1,11 @@
+pub mod Shelves
+pub mod Keepings
+pub mod Kinds
+pub mod Regions
+pub mod Asking
+pub mod Answering
+pub mod Lots
+pub mod Ways
+pub mod Serving
+pub mod Stages
+pub mod BookLaws

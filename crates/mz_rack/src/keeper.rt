@@ -1,0 +1,244 @@
+//! What stands for a place.
+ghost use Rattle.std.specs.Prelude.{◌≡◌, ◌*◌, ◌||◌, ℕ, [], length, map, find, IfOk, IsTrue};
+ghost use Rattle.std.specs.Option.{option_map};
+ghost use Rattle.mz_base.specs.declared.profile.Profile.{Profile as profile};
+ghost use Rattle.mz_base.specs.declared.range.TheConstants.{PAGE};
+ghost use Rattle.mz_base.specs.Limits.{IsWithinLimits};
+ghost use Rattle.mz_base.specs.Site.{Site};
+ghost use Rattle.mz_base.specs.Space.{run_end};
+ghost use Rattle.mz_base.specs.Lists.{size_at};
+ghost use Rattle.mz_events.specs.declared.place.Place.{Place as place};
+ghost use Rattle.mz_events.specs.declared.place.Place.TheVariants as place_is;
+ghost use Rattle.mz_events.specs.Places.{is_magazine, is_depot, is_size_of, is_length_of, nano_start};
+ghost use Rattle.mz_events.specs.State.{Kept, nothing_kept};
+ghost use Rattle.mz_events.specs.Changes.{with_region};
+ghost use Rattle.mz_events.specs.Separation.{has_page, InOrder};
+ghost use Rattle.mz_events.specs.Standing.{Keeping, Stands};
+ghost use Rattle.mz_register.specs.Keepers.{keeper_count, place_in_zone};
+ghost use Rattle.mz_register.specs.Plain.{last_site, StandAtFirst};
+ghost use Rattle.mz_rack.specs.Keepings.{lists_of};
+ghost use Rattle.mz_rack.specs.Regions.{run_in, view_in};
+ghost use Rattle.mz_rack.specs.Asking.{IsTidy, MayAsk, MayYield, MayAdopt, MayTake};
+ghost use Rattle.mz_rack.specs.Answering.{Placed, FoundRoom, Yielded, Cut};
+
+use crate::region::AnyRegion;
+use crate::shelf::Shelf;
+use crate::stock::Stock;
+use mz_base::{PAGE, Profile};
+use mz_bits::laws::a_run_is_read;
+use mz_events::Keep;
+use mz_ground::Span;
+use std::alloc::{AllocError, Global};
+use std::marker::Model;
+
+/// What stands for a place: the free pages with blank regions, a magazine or a depot, or large of a zone, which has
+/// no runs yet. Contracts see what it keeps. `all` alone makes keepers.
+#[derive(Drop)]
+pub struct Keeper {
+    kind: Kind,
+}
+
+/// The kinds of keepers. A depot is a shelf that says so.
+#[derive(Drop)]
+enum Kind {
+    Pages(Stock),
+    Tiny(Shelf<16, 65_536>),
+    Small(Shelf<512, 16_384>),
+    Large,
+}
+
+impl Model for Keeper {
+    ghost use Rattle.mz_events.specs.Standing.{Keeping};
+    ghost use Rattle.mz_rack.specs.Keepings.{kept_code_of};
+
+    ghost Value = { Keeping };
+
+    ghost coded = { kept_code_of };
+
+    ghost use Rattle.mz_rack.specs.Kinds.{keeping_of};
+
+    ghost view = { λ k. keeping_of k.kind };
+
+    ghost invariant = { λ k. Unit {0} };
+}
+
+impl Keep for Keeper {
+    ghost keeping = { λ k. k };
+}
+
+impl Keeper {
+    /// The keepers of all numbers, in order. The span is all bytes below nano's pages. They stand for the places of
+    /// the opening state in its space. All memory is taken here, for each region that fits.
+    pub fn all(alloc: Global, p: &Profile, space: Span) -> Result<Vec<Keeper>, AllocError>
+        requires limits { IsWithinLimits p.now }
+        requires first { space.first ≡ 0 }
+        requires len { length space.bytes ≡ nano_start p.now * PAGE }
+        ensures stand { IfOk result (λ ks. StandAtFirst p.now ks.items) }
+        ensures space { IfOk result (λ ks. last_site ks.items ≡ space.space) }
+    {
+        let pages = p.pages - p.nano;
+        let of_zone = 2 * p.magazines as usize + 3;
+        let below = of_zone * p.zones as usize;
+        let mut keepers = Vec::with_capacity(alloc, below + 1)?;
+        for k in 0..below {
+            keepers.push(Keeper::of_zone(alloc, p, k % of_zone, pages)?)?;
+        }
+        keepers.push(Keeper {
+            kind: Kind::Pages(Stock::make(alloc, space)?),
+        })?;
+        Ok(keepers)
+    }
+
+    // The i-th keeper of a zone, with room for each region that fits in so many pages.
+    fn of_zone(alloc: Global, p: &Profile, i: usize, pages: u64) -> Result<Keeper, AllocError>
+        requires limits { IsWithinLimits p.now }
+        requires pages { pages ≡ nano_start p.now }
+        ensures { IfOk result (λ k. (x : Site) (z : ℕ) → Stands k x p.now (place_in_zone p.now z i) nothing_kept) }
+    {
+        let m = p.magazines as usize;
+        let kind = if i <= m {
+            Kind::Tiny(Shelf::make(alloc, pages / 64, i == m)?)
+        } else if i <= 2 * m + 1 {
+            Kind::Small(Shelf::make(alloc, pages / 512, i == 2 * m + 1)?)
+        } else {
+            Kind::Large
+        };
+        Ok(Keeper { kind })
+    }
+
+    /// The first page and the number of pages of the run that has the page, or None where no run has it. The keeper of
+    /// the free pages has no runs.
+    pub fn run_of(&self, page: u64) -> Option<(u64, u64)>
+        ensures { result ≡ option_map (λ r. (r.first, r.pages)) (find (λ r. has_page r page) (lists_of self.now).runs) }
+    {
+        match &self.kind {
+            Kind::Tiny(shelf) => shelf.run_of(page),
+            Kind::Small(shelf) => shelf.run_of(page),
+            Kind::Pages(_) | Kind::Large => None,
+        }
+    }
+
+    /// The bytes of the live block that begins at the address `a`, and 0 where none does.
+    pub fn size_at(&self, a: u64) -> u64
+        ensures { result ≡ size_at (lists_of self.now).live a }
+    {
+        match &self.kind {
+            Kind::Tiny(shelf) => shelf.magazine.size_at(a),
+            Kind::Small(shelf) => shelf.magazine.size_at(a),
+            Kind::Pages(_) | Kind::Large => 0,
+        }
+    }
+
+    /// How many blocks are live.
+    pub fn count(&self) -> u64
+        ensures { result ≡ length (lists_of self.now).live }
+    {
+        match &self.kind {
+            Kind::Tiny(shelf) => shelf.magazine.count(),
+            Kind::Small(shelf) => shelf.magazine.count(),
+            Kind::Pages(_) | Kind::Large => 0,
+        }
+    }
+
+    // A magazine's new block of `n` bytes at the alignment `al`, or None where it has no room.
+    pub(crate) fn alloc(&mut self, n: u64, al: u64) -> Option<Span>
+        requires { MayAsk self.old n al }
+        ensures { (x : Site) (p : profile) (q : place) (k : Kept) → Stands self.old x p q k → IsTrue (is_magazine q) → IsTrue (is_size_of q n) → Placed x q k n al (Stands self.new x p q) result }
+    {
+        match &mut self.kind {
+            Kind::Tiny(shelf) => shelf.magazine.alloc(n / 16, al),
+            Kind::Small(shelf) => shelf.magazine.alloc(n / 512, al),
+            Kind::Pages(_) | Kind::Large => None,
+        }
+    }
+
+    // The first page of a depot's lowest region with room for `n` bytes at the alignment `al`.
+    pub(crate) fn fits(&self, n: u64, al: u64) -> Option<u64>
+        requires { MayAsk self.now n al }
+        ensures { (x : Site) (p : profile) (q : place) (k : Kept) → Stands self.now x p q k → IsTrue (is_depot q) → IsTrue (is_size_of q n) → IsTidy p q k → FoundRoom k n al result }
+    {
+        let first = match &self.kind {
+            Kind::Tiny(shelf) => shelf.magazine.fits(n / 16, al),
+            Kind::Small(shelf) => shelf.magazine.fits(n / 512, al),
+            Kind::Pages(_) | Kind::Large => None,
+        };
+        match first {
+            Some(a) => Some(a / PAGE),
+            None => None,
+        }
+    }
+
+    // Hands out the region that begins at page `first`.
+    pub(crate) fn yield_region(&mut self, first: u64) -> AnyRegion
+        requires { MayYield self.old first }
+        ensures { (x : Site) (p : profile) (q : place) (k : Kept) → Stands self.old x p q k → IsTrue (is_magazine q || is_depot q) → IsTidy p q k → Yielded x q k first (Stands self.new x p q) result }
+    {
+        match &mut self.kind {
+            Kind::Tiny(shelf) => match shelf.magazine.yield_region(first * PAGE) {
+                Some(region) => AnyRegion::Tiny(region),
+                None => unreachable!(),
+            },
+            Kind::Small(shelf) => match shelf.magazine.yield_region(first * PAGE) {
+                Some(region) => AnyRegion::Small(region),
+                None => unreachable!(),
+            },
+            Kind::Pages(_) | Kind::Large => unreachable!(),
+        }
+    }
+
+    // Takes a region in, with its live blocks.
+    pub(crate) fn adopt(&mut self, region: AnyRegion)
+        requires { MayAdopt self.old region }
+        ensures { (x : Site) (p : profile) (q : place) (k : Kept) → Stands self.old x p q k → IsTrue (is_magazine q || is_depot q) → (view_in region).space ≡ x → Stands self.new x p q (with_region (run_in region) (view_in region).live k) }
+    {
+        match &mut self.kind {
+            Kind::Tiny(shelf) => {
+                let _magazine = &shelf.magazine;
+                let AnyRegion::Tiny(region) = region else {
+                    unreachable!()
+                };
+                let _first = region.first();
+                shelf.magazine.adopt(region);
+            }
+            Kind::Small(shelf) => {
+                let _magazine = &shelf.magazine;
+                let AnyRegion::Small(region) = region else {
+                    unreachable!()
+                };
+                let _first = region.first();
+                shelf.magazine.adopt(region);
+            }
+            Kind::Pages(_) | Kind::Large => unreachable!(),
+        }
+    }
+
+    // Makes a region of the lowest free run of `w` pages at a multiple of `w`, or answers None where none is free.
+    pub(crate) fn take(&mut self, w: u64) -> Option<AnyRegion>
+        requires { MayTake self.old w }
+        ensures { (x : Site) (p : profile) (q : place) (k : Kept) → Stands self.old x p place_is.Pages k → IsTrue (is_magazine q) → IsTrue (is_length_of q w) → InOrder (λ r. r.first) run_end k.taken → Cut x p q k w (Stands self.new x p place_is.Pages) result }
+    {
+        a_run_is_read();
+        let Kind::Pages(stock) = &mut self.kind else {
+            unreachable!()
+        };
+        let span = stock.pages.take(w, w)?;
+        if w == 64 {
+            match stock.tiny.pop() {
+                Some(blank) => Some(AnyRegion::Tiny(blank.fit(span))),
+                None => unreachable!(),
+            }
+        } else {
+            match stock.small.pop() {
+                Some(blank) => Some(AnyRegion::Small(blank.fit(span))),
+                None => unreachable!(),
+            }
+        }
+    }
+
+    // Says that large of a zone has no cached run.
+    pub(crate) fn caches_nothing(&self)
+        ensures { (x : Site) (p : profile) (z : ℕ) (k : Kept) → Stands self.now x p (place_is.Large z) k → k.cached ≡ [] }
+    {
+        let _kind = &self.kind;
+    }
+}

@@ -1,0 +1,36 @@
+//! The rack: a request for a block, served from keepers that are taken one after another.
+//!
+//! - `Keeper`: what stands for a place: the free pages, a magazine, a depot, or large of a zone.
+//! - `Rack`: a zone's requests, served over any book.
+//! - `Lot`: one block with its bytes. `Null` says that no place had room.
+//! - `way`: the places that serve a caller, and the numbers of their keepers.
+//! - `serve`: how a request goes from place to place.
+//! - `shelf`, `stock`, `region`: the parts of a keeper.
+//!
+//! ```text
+//! request  ->  0t1   full?  ->  0td   full?  ->  0l, p   dry?  ->  null
+//!              |                |                |
+//!              new              move, new        take, new
+//! held         1                2                4 keepers
+//! ```
+//!
+//! Each keeper that was taken stays held until the last entry of the request is noted, so that nobody else
+//! touches these places in between.
+//!
+//! To the crates above, this one promises that a request adds to the record just the entries that serve it
+//! (`mz_record` says which these are), and that the lot is the block of its last entry.
+#![tactic(auto)]
+
+mod keeper;
+mod laws;
+mod lot;
+mod rack;
+mod region;
+mod serve;
+mod shelf;
+mod stock;
+mod way;
+
+pub use keeper::Keeper;
+pub use lot::{Lot, Null};
+pub use rack::Rack;

@@ -1,0 +1,67 @@
+//! A zone's requests.
+ghost use Rattle.std.specs.Prelude.{◌≡◌, ◌<◌, ◌≤◌, IfOk};
+ghost use Rattle.std.specs.Int.{IsPowerOfTwo};
+ghost use Rattle.mz_base.specs.Limits.{IsWithinLimits, IsFrom};
+ghost use Rattle.mz_base.specs.Codes.{limits_once};
+ghost use Rattle.mz_rack.specs.Serving.{CanServe, Answers};
+
+use crate::keeper::Keeper;
+use crate::laws::{moments, of_books};
+use crate::lot::{Lot, Null};
+use crate::serve::serve;
+use crate::way::find_way;
+use mz_base::{Profile, route, unit, units};
+use mz_events::laws::entries::states_split;
+use mz_register::Book;
+use std::alloc::{AllocError, Global};
+use std::sync::Wait;
+
+/// A zone's requests. It keeps the profile and the number of the zone, and no block or region: all of these are the keepers'.
+#[derive(Drop)]
+pub struct Rack {
+    profile: Profile,
+    zone: u32,
+    ghost limits: { IsWithinLimits profile } by { limits_once profile },
+    ghost zone_in: { zone < profile.zones },
+}
+
+impl Rack {
+    /// The rack of a zone.
+    pub fn new(_alloc: Global, p: &Profile, zone: u32) -> Result<Rack, AllocError>
+        requires limits { IsWithinLimits p.now }
+        requires zone { zone < p.now.zones }
+        ensures profile { IfOk result (λ r. r.profile ≡ p.now) }
+        ensures zone { IfOk result (λ r. r.zone ≡ zone) }
+    {
+        Ok(Rack { profile: *p, zone })
+    }
+
+    /// A block for a request of `n` bytes at the alignment `al`, a power of two from 16 to 16,384. It comes from the
+    /// caller's magazine; or from the lowest region of the depot with room, which moves to the magazine; or from a
+    /// fresh region. `Null` comes only where the magazine and the depot have no room and the pages have no run for a region.
+    ///
+    /// Until there are large blocks `n` is at most 32,768.
+    pub fn alloc<B: Book<Keeper>, R: Wait>(
+        &self,
+        rt: &R,
+        book: &mut B,
+        n: u64,
+        al: u64,
+    ) -> Result<Lot, Null>
+        requires can { CanServe (B.account book.old) self.now.profile self.now.zone 36 }
+        requires small { n ≤ 32768 }
+        requires power { IsPowerOfTwo al }
+        requires range { IsFrom 16 16384 al }
+        ensures { Answers (B.account book.old) self.now.zone n al result (B.account book.new) }
+    {
+        of_books();
+        states_split();
+        moments();
+        let way = find_way(&self.profile, self.zone, book.caller(), n);
+        let size = units(n) * unit(route(n));
+        match serve(rt, book, &way, size, al) {
+            Ok(span) => Ok(Lot::new(self.zone, span)),
+            Err(null) => Err(null),
+        }
+    }
+}

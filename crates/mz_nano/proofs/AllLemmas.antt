@@ -4,13 +4,14 @@ use Rattle.std.proofs.lemmas.List.{get_or-map}
 use Rattle.atomic_table.specs.Seated.{TableId}
 use Rattle.mz_nano.specs.declared.view.Geometry.{Geometry}
 use Rattle.mz_nano.specs.declared.view.Held.{Held}
+use Rattle.mz_nano.specs.declared.nano.Nano.{Nano}
 use Rattle.mz_nano.specs.declared.seat.NanoSeat.{NanoSeat}
 use Rattle.mz_nano.specs.declared.deal.Deal.{Deal}
 use Rattle.mz_nano.specs.Lists.{In, without}
 use Rattle.mz_nano.specs.Rule.{held}
 use Rattle.mz_nano.specs.SeatMoves.{class_in}
 use Rattle.mz_nano.specs.CallEffects.{IsSeatOf}
-use Rattle.mz_nano.specs.SeatLists.{AllNew, AllOf, hand_of}
+use Rattle.mz_nano.specs.SeatLists.{AllNew, AllOf, SitsAt, hand_of}
 use Rattle.mz_nano.specs.Deals.{hands_of, hand_at, moved, CanMove, CanDeal}
 use Rattle.mz_nano.proofs.MemberLemmas.{at_is}
 use Rattle.mz_nano.proofs.DealLemmas.{in_set}
@@ -22,6 +23,10 @@ new_all id key k (x ∷ xs) a s h = ⊎_elim (λ (q : s ≡ x). subst (λ (y : N
 -- all of them still, where one went on
 pub all_set : (id : TableId) (key : Geometry) (ss : List NanoSeat) (i : ℕ) (n : NanoSeat) → AllOf id key ss → IsSeatOf id key n.seat → n.seat.me.0.parts ≡ 2 → AllOf id key (set ss i n)
 all_set id key ss i n all one parts s h = ⊎_elim (λ (q : s ≡ n). subst (λ (y : NanoSeat). IsSeatOf id key y.seat × (y.seat.me.0.parts ≡ 2)) (sym q) (one, parts)) (λ (q : In s ss). all s q) (in_set ss i n s h)
+
+-- two seats are all of a nano that has two
+pub all_two : (nano : Nano) (a b : NanoSeat) → SitsAt nano a → SitsAt nano b → (s : NanoSeat) → In s (a ∷ b ∷ []) → SitsAt nano s
+all_two nano a b x y s h = ⊎_elim (λ (q : s ≡ a). subst (SitsAt nano) (sym q) x) (λ (t : In s (b ∷ [])). ⊎_elim (λ (q : s ≡ b). subst (SitsAt nano) (sym q) y) (λ (z : ⊥). absurd z) t) h
 
 -- a list of one move
 pub can_one : (d : Deal) (hs : List (List Held)) → CanMove d hs → CanDeal (d ∷ []) hs

@@ -2,10 +2,11 @@
 use Rattle.std.proofs.Common.{◌≡◌, ℕ, ◌<◌, ◌&&◌, nat_lt, Bool, true, false, if◌then◌else◌, List, [], ◌∷◌, ◌++◌, refl, sym, ap, ◌∙◌, subst, ⊎_elim, ltb-true, lt-ltb}
 use Rattle.mz_nano.specs.declared.view.Held.{Held}
 use Rattle.mz_nano.specs.Lists.{In, without, is_at}
-use Rattle.mz_nano.specs.Rule.{held}
+use Rattle.mz_nano.specs.Rule.{Once, held}
 use Rattle.mz_nano.specs.declared.view.Geometry.{Geometry}
 use Rattle.mz_nano.specs.StepEffects.{Standing}
 use Rattle.mz_nano.specs.CallEffects.{hand_ok, empty, IsAtRest, EndsAtRest, Pushed, PushLost}
+use Rattle.mz_nano.proofs.OnceLemmas.{once_without}
 
 both : (x y : Bool) → (x && y) ≡ true → (x ≡ true) × (y ≡ true)
 both true y e = (refl, e)
@@ -38,10 +39,10 @@ pub ends_between : (me me' : Standing) → IsAtRest me → EndsAtRest me me' →
 ends_between me me' b e = record { live = e.same.live; outs = ap empty e.same.outs; claims = ap empty e.same.claims; carried = ap empty e.same.carried; hand = e.hand b.hand }
 
 pub pushed_ends : (me me' : Standing) (b j c : ℕ) → Pushed me b j c me' → EndsAtRest me me'
-pushed_ends me me' b j c p = record { same = p.same; hand = λ h. ap (λ (q : Geometry). hand_ok q.blocks me'.0.hand) p.same.geometry ∙ (ap (hand_ok me.0.geometry.blocks) p.hand ∙ hand_without me.0.geometry.blocks b j me.0.hand h) }
+pushed_ends me me' b j c p = record { same = p.same; hand = λ h. ap (λ (q : Geometry). hand_ok q.blocks me'.0.hand) p.same.geometry ∙ (ap (hand_ok me.0.geometry.blocks) p.hand ∙ hand_without me.0.geometry.blocks b j me.0.hand h); once = λ o. subst Once (sym p.hand) (once_without b j me.0.hand o) }
 
 pub kept_ends : (me me' : Standing) (b x n : ℕ) → PushLost me b x n me' → EndsAtRest me me'
-kept_ends me me' b x n p = record { same = p.same; hand = λ h. ap (λ (q : Geometry). hand_ok q.blocks me'.0.hand) p.same.geometry ∙ (ap (hand_ok me.0.geometry.blocks) p.hand ∙ h) }
+kept_ends me me' b x n p = record { same = p.same; hand = λ h. ap (λ (q : Geometry). hand_ok q.blocks me'.0.hand) p.same.geometry ∙ (ap (hand_ok me.0.geometry.blocks) p.hand ∙ h); once = λ o. subst Once (sym p.hand) o }
 
 pub hand_both : (n : ℕ) (xs ys : List Held) → hand_ok n xs ≡ true → hand_ok n ys ≡ true → hand_ok n (xs ++ ys) ≡ true
 hand_both n [] ys a b = b

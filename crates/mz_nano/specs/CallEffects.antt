@@ -11,7 +11,7 @@ use Rattle.mz_nano.specs.declared.view.Known.{Known}
 use Rattle.mz_nano.specs.declared.view.Load.{Load}
 use Rattle.mz_nano.specs.declared.view.View.{View}
 use Rattle.mz_nano.specs.Lists.{In, without}
-use Rattle.mz_nano.specs.Rule.{IsPiece, slots, held, known, claim, vacant}
+use Rattle.mz_nano.specs.Rule.{IsPiece, Once, slots, held, known, claim, vacant}
 use Rattle.mz_nano.specs.StepEffects.{Standing, load, win, clash, place_given, popped, IsSound}
 use Rattle.mz_nano.specs.declared.seat.Miss.{Miss}
 use Rattle.mz_nano.specs.declared.pop.Candidate.{Candidate}
@@ -38,6 +38,10 @@ pub record IsAtRest (me : Standing) : Type 0 where
 pub is_at_rest-prop : (me : Standing) → IsProp (IsAtRest me)
 is_at_rest-prop me = hlevel (props, Coded-set coded_bool)
 
+pub once-prop : (hs : List Held) → IsProp (Once hs)
+once-prop [] = hlevel props
+once-prop (h ∷ hs) = hlevel (props, once-prop hs)
+
 -- it is a seat of this table
 abbrev pub IsSeatOf : TableId → Geometry → Seat (Option SpanView) View → Type 0
 IsSeatOf id key seat = (seat.table_id ≡ id) × (seat.me.0.geometry ≡ key)
@@ -51,10 +55,11 @@ pub record StaysAtRest (me me' : Standing) : Type 0 where
   pub claims : me'.0.claim ≡ []
   pub carried : me'.1 ≡ []
 
--- the same, with blocks and slots of the hand in bounds where they were
+-- the same, with blocks and slots of the hand in bounds and each there once where they were
 pub record EndsAtRest (me me' : Standing) : Type 0 where
   pub same : StaysAtRest me me'
   pub hand : hand_ok me.0.geometry.blocks me.0.hand ≡ true → hand_ok me'.0.geometry.blocks me'.0.hand ≡ true
+  pub once : Once me.0.hand → Once me'.0.hand
 
 -- a pop may take a slot by the word n: it is ready with the class c, has a free slot and a generation below the last
 pub record IsUsable (geometry : Geometry) (c n : ℕ) : Type 0 where

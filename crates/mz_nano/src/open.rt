@@ -3,7 +3,7 @@ ghost use Rattle.std.specs.Prelude.{◌≡◌, ℕ, ◌+◌, ◌-◌, ◌*◌, �
 ghost use Rattle.mz_nano.specs.Rule.{IsPiece, first_view};
 ghost use Rattle.mz_nano.specs.Laid.{Laid};
 ghost use Rattle.mz_nano.specs.CallEffects.{IsSeatOf};
-ghost use Rattle.mz_nano.specs.SeatLists.{AllNew, space_of, first_of, seats_of, blocks_of, most_gen_of};
+ghost use Rattle.mz_nano.specs.SeatLists.{AllNew, space_of, first_of, seats_of, blocks_of, most_gen_of, AreAllOf};
 
 use crate::nano::{LINKS, Nano, PLACES};
 use crate::rule::NewSeat;
@@ -92,6 +92,7 @@ impl Nano {
         requires count { 1 ≤ seats }
         ensures nano { IfOk result (λ r. (most_gen_of r.0 ≡ most_gen) × (blocks_of r.0 * 16384 ≡ length span.bytes) × (space_of r.0 ≡ span.space) × (first_of r.0 ≡ span.first) × (seats_of r.0 ≡ seats)) }
         ensures seats { IfOk result (λ r. (length r.1.items ≡ seats) × AllNew r.0.table.shared.table_id r.0.table.shared.key 0 r.1.items) }
+        ensures all { IfOk result (λ r. AreAllOf r.0 r.1.items) }
     {
         let blocks = span.len() / PAGE;
         let (edge, pages) = span.split(0);

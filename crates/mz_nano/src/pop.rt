@@ -239,6 +239,8 @@ impl Nano {
 
     // A slot, with the first address of the nano's span.
     fn slot_span(&self, block: u64, slot: u64, class: u64, span: Span) -> SlotSpan
+        requires class { (1 ≤ class) × (class ≤ 16) }
+        requires slot { slot < slots class }
         requires piece { IsPiece self.now.table.shared.key block (16 * class * slot) (16 * class) span }
         ensures which { (result.block ≡ block) × (result.slot ≡ slot) × (result.class ≡ class) }
         ensures base { result.base ≡ first_of self.now }

@@ -1,6 +1,7 @@
 //! A seat, and the answers that it gets.
 ghost use Rattle.std.specs.Prelude.{◌≡◌, None, length};
-ghost use Rattle.mz_nano.specs.CallEffects.{IsAtRest, is_at_rest-prop};
+ghost use Rattle.mz_nano.specs.Rule.{Once};
+ghost use Rattle.mz_nano.specs.CallEffects.{IsAtRest, is_at_rest-prop, once-prop};
 
 use crate::slot::SlotSpan;
 use crate::view::{Held, View};
@@ -29,7 +30,8 @@ pub struct Contended {
 }
 
 /// What a thread pops and pushes with. Contracts see its hand, which is the list of the slots that
-/// it was given and hasn't put back, and what it stores of its calls.
+/// it was given and hasn't put back, and what it stores of its calls. By its type no slot is in the
+/// hand twice.
 ///
 /// Each count rises by one with a call, and stays at the greatest `u64` once there.
 #[derive(Drop)]
@@ -44,6 +46,7 @@ pub struct NanoSeat {
     pub(crate) seat: Seat<Option<Span>, View>,
     ghost count: { held ≡ length seat.me.0.hand },
     ghost at_rest: { IsAtRest seat.me } by { is_at_rest-prop seat.me },
+    ghost once: { Once seat.me.0.hand } by { once-prop seat.me.0.hand },
 }
 
 impl NanoSeat {

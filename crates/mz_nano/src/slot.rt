@@ -8,7 +8,8 @@ use mz_ground::Span;
 use std::marker::Model;
 
 /// A slot with its bytes, which nothing else can reach. Contracts see its block, its number there, its
-/// class, the first address of its nano's span (`base`), and its own span.
+/// class, the first address of its nano's span (`base`), and its own span. By its type the class is 1
+/// to 16, the number is below the slots of that class, and the span has the bytes of that slot.
 #[derive(Drop)]
 pub struct SlotSpan {
     block: u64,

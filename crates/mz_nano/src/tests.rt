@@ -1,10 +1,11 @@
-ghost use Rattle.std.specs.Prelude.{◌≡◌};
+ghost use Rattle.std.specs.Prelude.{◌≡◌, IfOk};
 ghost use Rattle.mz_nano.specs.Lists.{In};
 ghost use Rattle.mz_nano.specs.Rule.{held};
-ghost use Rattle.mz_nano.specs.SeatLists.{SitsAt, space_of, first_of, hand_of};
+ghost use Rattle.mz_nano.specs.SeatLists.{SitsAt, AreAllOf, space_of, first_of, seats_of, hand_of};
 
 use crate::{Deal, Miss, Nano, NanoSeat, SlotSpan};
 use mz_ground::Space;
+use std::alloc::{AllocError, Global};
 use std::test::Fail;
 use std::thread;
 
@@ -167,16 +168,36 @@ fn turn(nano: &Nano, seat: &mut NanoSeat, number: u8) -> bool
     put_back(nano, seat, s) && own
 }
 
-fn take_turns(nano: &Nano, mut seat: NanoSeat, number: u8) -> bool
+fn take_turns(nano: &Nano, mut seat: NanoSeat, number: u8) -> (NanoSeat, bool)
     requires one { SitsAt nano.now seat }
+    ensures one { SitsAt nano.now result.0 }
 {
     let mut own = true;
     for _ in 0..TURNS {
         own &= turn(nano, &mut seat, number);
     }
-    own && seat.tries() == u64::from(TURNS) && seat.misses() < u64::from(TURNS)
+    let served = seat.tries() == u64::from(TURNS) && seat.misses() < u64::from(TURNS);
+    (seat, own && served)
 }
 
+// The two seats of a nano.
+fn both_back(
+    alloc: Global,
+    nano: &Nano,
+    first: NanoSeat,
+    second: NanoSeat,
+) -> Result<Vec<NanoSeat>, AllocError>
+    requires count { seats_of nano.now ≡ 2 }
+    requires one { SitsAt nano.now first }
+    requires two { SitsAt nano.now second }
+    ensures { IfOk result (λ v. AreAllOf nano.now v.items) }
+{
+    let _blocks = nano.blocks;
+    Ok(vec![in alloc; first, second]?)
+}
+
+// Each thread pops and pushes: it misses less often than it turns, says so where a slot didn't go back,
+// and in the end every hand is empty.
 #[test]
 fn two_threads_write_their_own(rt: HostRuntime) -> Result<(), Fail> {
     let span = Space::new(rt.alloc(), 4)?;
@@ -188,15 +209,23 @@ fn two_threads_write_their_own(rt: HostRuntime) -> Result<(), Fail> {
         return Err(Fail::new("one seat"));
     };
     let shared = &nano;
-    let own = thread::join(
+    let (left, right) = thread::join(
         &rt,
-        move || -> bool
+        move || -> (NanoSeat, bool)
             requires { SitsAt shared.now first }
+            ensures { SitsAt shared.entry.now result.0 }
         { take_turns(shared, first, 1) },
-        move || -> bool
+        move || -> (NanoSeat, bool)
             requires { SitsAt shared.now second }
+            ensures { SitsAt shared.entry.now result.0 }
         { take_turns(shared, second, 2) },
     );
-    assert_eq!(rt; own, (true, true));
+    let ((first, first_own), (second, second_own)) = (left, right);
+    assert_eq!(rt; (first_own, second_own), (true, true));
+    let seats = both_back(rt.alloc(), &nano, first, second)?;
+    let Ok(span) = nano.close(seats) else {
+        return Err(Fail::new("a hand has a slot"));
+    };
+    assert_eq!(rt; (span.first(), span.len()), (0, 65536));
     Ok(())
 }

@@ -1,12 +1,12 @@
-use Rattle.std.proofs.Common.{◌≡◌, ℕ, [], length, refl, ap, ◌∙◌, arith}
+use Rattle.std.proofs.Common.{◌≡◌, ℕ, [], length, refl, sym, ap, ◌∙◌, subst, arith}
 use Rattle.mz_nano.specs.declared.view.View.{View}
 use Rattle.mz_nano.specs.Lists.{without}
-use Rattle.mz_nano.specs.Rule.{held}
+use Rattle.mz_nano.specs.Rule.{Once, held}
 use Rattle.mz_nano.specs.StepEffects.{Standing, word_loaded}
 use Rattle.mz_nano.specs.SeatMoves.{without_slot, bring, class_in}
 use Rattle.mz_nano.specs.CallEffects.{empty, hand_ok}
 use Rattle.mz_nano.proofs.HandLemmas.{hand_without, hand_in, hand_more}
-use Rattle.mz_nano.proofs.OnceLemmas.{length_without}
+use Rattle.mz_nano.proofs.OnceLemmas.{length_without, once_without}
 use Rattle.mz_nano.proofs.nano.Nano.give_slot.Goals as goal
 
 pub invariant_of-s : goal.invariant_of-s
@@ -27,6 +27,7 @@ invariant_of-s c =
         carried = ap (λ (m : Standing). empty m.1) c.part-temp.ensures.left ∙ (ap empty l.carried ∙ s.at_rest.carried);
         hand = ap (λ (v : View). hand_ok v.geometry.blocks v.hand) view ∙ hand_without s.seat.me.0.geometry.blocks b j s.seat.me.0.hand s.at_rest.hand;
       };
+      once = subst (λ (v : View). Once v.hand) (sym view) (once_without b j s.seat.me.0.hand l.once);
     }
 
 pub returns-clause-at_rest : goal.returns-clause-at_rest

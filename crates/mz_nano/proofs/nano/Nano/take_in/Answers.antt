@@ -1,6 +1,7 @@
-use Rattle.std.proofs.Common.{◌≡◌, ◌++◌, length, sym, ap, ◌∙◌, arith, length-append}
+use Rattle.std.proofs.Common.{◌≡◌, ◌++◌, length, sym, ap, ◌∙◌, subst, arith, length-append}
 use Rattle.mz_nano.specs.declared.view.View.{View}
 use Rattle.mz_nano.specs.declared.view.Geometry.{Geometry}
+use Rattle.mz_nano.specs.Rule.{Once}
 use Rattle.mz_nano.specs.StepEffects.{Standing, word_loaded}
 use Rattle.mz_nano.specs.SeatMoves.{joined}
 use Rattle.mz_nano.specs.CallEffects.{empty, hand_ok}
@@ -41,4 +42,5 @@ invariant_of-s c =
         carried = ap empty l.carried ∙ (ap (λ (m : Standing). empty m.1) j.2 ∙ s.at_rest.carried);
         hand = ap (λ (v : View). hand_ok v.geometry.blocks v.hand) view ∙ hand_both s.seat.me.0.geometry.blocks t.me.0.hand s.seat.me.0.hand (ap (λ (p : Geometry). hand_ok p.blocks t.me.0.hand) (sym plans) ∙ c.requires.at_rest.hand) s.at_rest.hand;
       };
+      once = subst (λ (v : View). Once v.hand) (sym l.view) l.once;
     }

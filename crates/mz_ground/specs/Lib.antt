@@ -4,3 +4,4 @@ pub mod Views
 pub mod Ownership
 pub mod Parts
 pub mod Held
+pub mod Estates

@@ -28,14 +28,14 @@ use Rattle.mz_events.specs.History.{AreLawful, after_all}
 use Rattle.mz_events.specs.Hands.{own}
 use Rattle.mz_events.specs.Holding.{changes_zones, IsAway, AreAway, IsKnownThrough}
 use Rattle.mz_events.specs.Standing.{Keeping, Stands}
-use Rattle.mz_register.specs.declared.pair.Pair.{Pair}
-use Rattle.mz_register.specs.Keepers.{keeper_count, keeper_of, place_at, keeper_spot, is_among, is_held}
-use Rattle.mz_register.specs.Pairs.{hand_among, owners, pairs_after, is_in_hand}
-use Rattle.mz_register.specs.Lights.{slot_size, slots_of, page_of_block, has_slot, is_slot_live, has_light, light_at}
-use Rattle.mz_register.specs.Account.{Account, is_live, entry_at, state_of, hand, class_of}
-use Rattle.mz_register.specs.Calls.{CanNote, CanNoteAtNano}
-use Rattle.mz_register.specs.Noting.{HandsAreKept, NoteIsKept}
-use Rattle.mz_register.specs.Rule.{AreInOneHand}
+use Rattle.mz_book.specs.declared.pair.Pair.{Pair}
+use Rattle.mz_book.specs.Keepers.{keeper_count, keeper_of, place_at, keeper_spot, is_among, is_held}
+use Rattle.mz_book.specs.Pairs.{hand_among, owners, pairs_after, is_in_hand}
+use Rattle.mz_book.specs.Lights.{slot_size, slots_of, page_of_block, has_slot, is_slot_live, has_light, light_at}
+use Rattle.mz_book.specs.Account.{Account, is_live, entry_at, state_of, hand, class_of}
+use Rattle.mz_book.specs.Calls.{CanNote, CanNoteAtNano}
+use Rattle.mz_book.specs.Noting.{HandsAreKept, NoteIsKept}
+use Rattle.mz_book.specs.Rule.{AreInOneHand}
 use Rattle.mz_desk.specs.declared.view.Since.{Since}
 use Rattle.mz_desk.specs.declared.view.TakenIn.{TakenIn}
 use Rattle.mz_desk.specs.declared.view.View.{View}
@@ -94,7 +94,7 @@ module _ (L : DeskLaws) (s t : Account) (classes : (b : ℕ) → 1 ≤ class_of 
         class = subst (λ x. 1 ≤ x) (sym c) h.class;
         there = subst (λ x. h.slot < slots_of x) (sym c) h.there;
         size = h.size ∙ ap slot_size (sym c);
-        address = h.address ∙ ap (λ (p : Profile). Rattle.mz_register.specs.Lights.slot_address p h.block h.slot n) (sym profile);
+        address = h.address ∙ ap (λ (p : Profile). Rattle.mz_book.specs.Lights.slot_address p h.block h.slot n) (sym profile);
         some = h.some;
         aligned = h.aligned;
         fresh = ap (λ bs. has_block bs (block_at a n)) hands ∙ h.fresh;
@@ -104,7 +104,7 @@ module _ (L : DeskLaws) (s t : Account) (classes : (b : ℕ) → 1 ≤ class_of 
     block = h.block;
     below = subst (λ (p : Profile). h.block < p.nano) (sym profile) h.below;
     page = h.page ∙ ap (λ (p : Profile). page_of_block p h.block) (sym profile);
-    light = ap (λ ls. has_light ls (light_at h.block (Rattle.mz_register.specs.Lights.slot_number (block_at a n)))) lights ∙ h.light;
+    light = ap (λ ls. has_light ls (light_at h.block (Rattle.mz_book.specs.Lights.slot_number (block_at a n)))) lights ∙ h.light;
     zone_open = zones 0 ∙ h.zone_open;
   }
   same_at_nano (No k z a n) h = record {

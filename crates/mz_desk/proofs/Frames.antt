@@ -15,10 +15,10 @@ use Rattle.mz_events.specs.declared.entry.Entry.{Entry}
 use Rattle.mz_events.specs.State.{State}
 use Rattle.mz_events.specs.Changes.{one_for}
 use Rattle.mz_events.specs.Standing.{Keeping}
-use Rattle.mz_register.specs.declared.pair.Pair.{Pair}
-use Rattle.mz_register.specs.Keepers.{keeper_count, is_among}
-use Rattle.mz_register.specs.Pairs.{hand_among, owners}
-use Rattle.mz_register.specs.Lights.{slot_size, has_slot, is_slot_live, has_light, light_at}
+use Rattle.mz_book.specs.declared.pair.Pair.{Pair}
+use Rattle.mz_book.specs.Keepers.{keeper_count, is_among}
+use Rattle.mz_book.specs.Pairs.{hand_among, owners}
+use Rattle.mz_book.specs.Lights.{slot_size, has_slot, is_slot_live, has_light, light_at}
 use Rattle.mz_desk.specs.declared.view.TakenIn.{TakenIn}
 use Rattle.mz_desk.specs.declared.view.View.{View}
 use Rattle.mz_desk.specs.Words.{lock_word, class_word, light_word, lock_place, class_place, slot_place}

@@ -20,12 +20,12 @@ use Rattle.mz_events.specs.History.{AreLawful, after_all}
 use Rattle.mz_events.specs.Hands.{own}
 use Rattle.mz_events.specs.Holding.{IsAway, AreAway}
 use Rattle.mz_events.specs.Standing.{Keeping}
-use Rattle.mz_register.specs.declared.pair.Pair.{Pair}
-use Rattle.mz_register.specs.Keepers.{keeper_of, is_held}
-use Rattle.mz_register.specs.Lights.{page_of_block, slot_number, has_slot}
-use Rattle.mz_register.specs.Pairs.{hand_among, owners, block_of}
-use Rattle.mz_register.specs.Account.{is_live}
-use Rattle.mz_register.specs.Calls.{without}
+use Rattle.mz_book.specs.declared.pair.Pair.{Pair}
+use Rattle.mz_book.specs.Keepers.{keeper_of, is_held}
+use Rattle.mz_book.specs.Lights.{page_of_block, slot_number, has_slot}
+use Rattle.mz_book.specs.Pairs.{hand_among, owners, block_of}
+use Rattle.mz_book.specs.Account.{is_live}
+use Rattle.mz_book.specs.Calls.{without}
 use Rattle.mz_desk.specs.declared.view.Since.{Since}
 use Rattle.mz_desk.specs.declared.view.View.{View}
 use Rattle.mz_desk.specs.Laws.{DeskLaws}

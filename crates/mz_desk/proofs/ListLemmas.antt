@@ -5,8 +5,8 @@ use Rattle.std.proofs.lemmas.Bool.{false≢true, eqb-true}
 use mathlib.Core.Option as m
 use mathlib.Core.Option.{some-ne-none, some-injective}
 use lib.ListN.{get_elem?}
-use Rattle.mz_register.specs.Keepers.{is_among}
-use Rattle.mz_register.specs.Calls.{without}
+use Rattle.mz_book.specs.Keepers.{is_among}
+use Rattle.mz_book.specs.Calls.{without}
 
 pub or_either : (a b : Bool) → (a || b) ≡ true → (a ≡ true) ⊎ (b ≡ true)
 or_either true b h = inl refl

@@ -19,9 +19,9 @@ use Rattle.mz_events.specs.Changes.{one_for}
 use Rattle.mz_events.specs.History.{after_all}
 use Rattle.mz_events.specs.Holding.{IsAway, AreAway}
 use Rattle.mz_events.specs.Standing.{Keeping, Stands}
-use Rattle.mz_register.specs.Keepers.{keeper_count, place_at, keeper_spot, is_among, is_held}
-use Rattle.mz_register.specs.Account.{is_live}
-use Rattle.mz_register.specs.Calls.{without}
+use Rattle.mz_book.specs.Keepers.{keeper_count, place_at, keeper_spot, is_among, is_held}
+use Rattle.mz_book.specs.Account.{is_live}
+use Rattle.mz_book.specs.Calls.{without}
 use Rattle.mz_desk.specs.declared.view.SpaceName.{SpaceName}
 use Rattle.mz_desk.specs.declared.view.View.{View}
 use Rattle.mz_desk.specs.Laws.{DeskLaws}

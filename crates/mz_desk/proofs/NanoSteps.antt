@@ -15,9 +15,9 @@ use Rattle.mz_events.specs.declared.entry.Entry.{Entry}
 use Rattle.mz_events.specs.Places.{nano_page}
 use Rattle.mz_events.specs.Changes.{one_for}
 use Rattle.mz_events.specs.Standing.{Keeping}
-use Rattle.mz_register.specs.Keepers.{keeper_count}
-use Rattle.mz_register.specs.Pairs.{hand_among}
-use Rattle.mz_register.specs.Lights.{slot_size, page_of_block, has_slot, is_slot_live, has_light, light_at, same_light}
+use Rattle.mz_book.specs.Keepers.{keeper_count}
+use Rattle.mz_book.specs.Pairs.{hand_among}
+use Rattle.mz_book.specs.Lights.{slot_size, page_of_block, has_slot, is_slot_live, has_light, light_at, same_light}
 use Rattle.mz_desk.specs.declared.view.View.{View}
 use Rattle.mz_desk.specs.Laws.{DeskLaws}
 use Rattle.mz_desk.specs.Words.{lock_word, class_word, light_word, lock_place, class_place, slot_place}

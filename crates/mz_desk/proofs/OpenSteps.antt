@@ -15,11 +15,11 @@ use Rattle.mz_events.specs.Changes.{one_for}
 use Rattle.mz_events.specs.History.{AreLawful, after_all}
 use Rattle.mz_events.specs.Holding.{changes_zones, IsAway}
 use Rattle.mz_events.specs.Standing.{Keeping}
-use Rattle.mz_register.specs.declared.pair.Pair.{Pair}
-use Rattle.mz_register.specs.Keepers.{is_held}
-use Rattle.mz_register.specs.Lights.{is_slot_live}
-use Rattle.mz_register.specs.Pairs.{owners}
-use Rattle.mz_register.specs.Account.{is_live}
+use Rattle.mz_book.specs.declared.pair.Pair.{Pair}
+use Rattle.mz_book.specs.Keepers.{is_held}
+use Rattle.mz_book.specs.Lights.{is_slot_live}
+use Rattle.mz_book.specs.Pairs.{owners}
+use Rattle.mz_book.specs.Account.{is_live}
 use Rattle.mz_desk.specs.declared.view.View.{View}
 use Rattle.mz_desk.specs.Views.{Opened, first_view, pairs_of}
 use Rattle.mz_desk.specs.Rule.{all_of, state_after, AtHome, IsAloneSince, IsWhose, IsTaken, SeatKeeps, LockOwner, LightOwner, Kept, Rule}

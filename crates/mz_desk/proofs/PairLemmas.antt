@@ -11,8 +11,8 @@ use lib.ListN.{get_elem?}
 use Rattle.mz_base.specs.Space.{Block, block_at, same_block}
 use Rattle.mz_events.specs.declared.event.Event.{Event}
 use Rattle.mz_events.specs.declared.event.Event.TheVariants.{Take, Back, Move, New, End, Size, Full, Dry, No, Open, Shut}
-use Rattle.mz_register.specs.declared.pair.Pair.{Pair}
-use Rattle.mz_register.specs.Pairs.{hand_among, block_of, is_pair, pair_at, pairs_after, resized_pair}
+use Rattle.mz_book.specs.declared.pair.Pair.{Pair}
+use Rattle.mz_book.specs.Pairs.{hand_among, block_of, is_pair, pair_at, pairs_after, resized_pair}
 use Rattle.mz_desk.specs.declared.view.View.{View}
 use Rattle.mz_desk.specs.Views.{all_pairs, pairs_of}
 use Rattle.mz_desk.proofs.Knowing.{hand_append}

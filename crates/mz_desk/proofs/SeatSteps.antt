@@ -21,11 +21,11 @@ use Rattle.mz_events.specs.History.{after_all}
 use Rattle.mz_events.specs.Hands.{own}
 use Rattle.mz_events.specs.Holding.{changes_zones, IsAway, AreAway}
 use Rattle.mz_events.specs.Standing.{Keeping}
-use Rattle.mz_register.specs.declared.pair.Pair.{Pair}
-use Rattle.mz_register.specs.Keepers.{is_among, is_held}
-use Rattle.mz_register.specs.Pairs.{hand_among, owners, block_of}
-use Rattle.mz_register.specs.Lights.{has_slot, is_slot_live, has_light, light_at}
-use Rattle.mz_register.specs.Account.{is_live}
+use Rattle.mz_book.specs.declared.pair.Pair.{Pair}
+use Rattle.mz_book.specs.Keepers.{is_among, is_held}
+use Rattle.mz_book.specs.Pairs.{hand_among, owners, block_of}
+use Rattle.mz_book.specs.Lights.{has_slot, is_slot_live, has_light, light_at}
+use Rattle.mz_book.specs.Account.{is_live}
 use Rattle.mz_desk.specs.declared.view.TakenIn.{TakenIn}
 use Rattle.mz_desk.specs.declared.view.View.{View}
 use Rattle.mz_desk.specs.Laws.{DeskLaws}

@@ -11,15 +11,15 @@ use Rattle.mz_events.specs.Effect.{touches, after}
 use Rattle.mz_events.specs.History.{IsLawful, AreLawful, after_entry, after_all}
 use Rattle.mz_events.specs.Hands.{own}
 use Rattle.mz_events.specs.Holding.{AreAway, IsKnownThrough}
-use Rattle.mz_register.specs.declared.light.Light.{Light}
-use Rattle.mz_register.specs.declared.pair.Pair.{Pair}
-use Rattle.mz_register.specs.Keepers.{keeper_count, keeper_spot, is_among, is_held}
-use Rattle.mz_register.specs.Pairs.{hand_among}
-use Rattle.mz_register.specs.Lights.{has_slot, is_slot_live, same_light, has_light, add_light, drop_light}
-use Rattle.mz_register.specs.Account.{Account}
-use Rattle.mz_register.specs.Calls.{CanNote}
-use Rattle.mz_register.specs.Noting.{HandsAreKept, NoteIsKept}
-use Rattle.mz_register.specs.Rule.{AreInOneHand}
+use Rattle.mz_book.specs.declared.light.Light.{Light}
+use Rattle.mz_book.specs.declared.pair.Pair.{Pair}
+use Rattle.mz_book.specs.Keepers.{keeper_count, keeper_spot, is_among, is_held}
+use Rattle.mz_book.specs.Pairs.{hand_among}
+use Rattle.mz_book.specs.Lights.{has_slot, is_slot_live, same_light, has_light, add_light, drop_light}
+use Rattle.mz_book.specs.Account.{Account}
+use Rattle.mz_book.specs.Calls.{CanNote}
+use Rattle.mz_book.specs.Noting.{HandsAreKept, NoteIsKept}
+use Rattle.mz_book.specs.Rule.{AreInOneHand}
 
 pub record DeskLaws : Type 0 where
   pub untouched : (p : Profile) (s : State) (c : ℕ) (e : Event) (j : Spot) → touches p e j ≡ false → value_at (after p s c e) j ≡ value_at s j

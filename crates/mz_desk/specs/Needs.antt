@@ -6,10 +6,10 @@ use Rattle.mz_events.specs.State.{value_at, opening}
 use Rattle.mz_events.specs.Changes.{one_for}
 use Rattle.mz_events.specs.History.{after_all}
 use Rattle.mz_events.specs.Standing.{Keeping, Stands}
-use Rattle.mz_register.specs.Keepers.{keeper_count, place_at, keeper_spot, is_among}
-use Rattle.mz_register.specs.Pairs.{hand_among}
-use Rattle.mz_register.specs.Lights.{has_slot, has_light, light_at}
-use Rattle.mz_register.specs.Calls.{CanNote}
+use Rattle.mz_book.specs.Keepers.{keeper_count, place_at, keeper_spot, is_among}
+use Rattle.mz_book.specs.Pairs.{hand_among}
+use Rattle.mz_book.specs.Lights.{has_slot, has_light, light_at}
+use Rattle.mz_book.specs.Calls.{CanNote}
 use Rattle.mz_desk.specs.declared.view.View.{View}
 use Rattle.mz_desk.specs.Views.{site_at, view_account}
 

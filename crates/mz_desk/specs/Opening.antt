@@ -6,9 +6,9 @@ use Rattle.mz_events.specs.State.{opening}
 use Rattle.mz_events.specs.Changes.{one_for}
 use Rattle.mz_events.specs.History.{AreLawful, after_all}
 use Rattle.mz_events.specs.Standing.{Keeping}
-use Rattle.mz_register.specs.Keepers.{keeper_count}
-use Rattle.mz_register.specs.Lights.{is_slot_live}
-use Rattle.mz_register.specs.Rule.{AreInOneHand}
+use Rattle.mz_book.specs.Keepers.{keeper_count}
+use Rattle.mz_book.specs.Lights.{is_slot_live}
+use Rattle.mz_book.specs.Rule.{AreInOneHand}
 use Rattle.mz_desk.specs.Words.{word_count, lock_word, light_word}
 use Rattle.mz_desk.specs.Views.{Opened}
 use Rattle.mz_desk.specs.Rule.{AtHome, ClassesKeep}

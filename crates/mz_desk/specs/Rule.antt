@@ -18,12 +18,12 @@ use Rattle.mz_events.specs.History.{AreLawful, after_all}
 use Rattle.mz_events.specs.Hands.{own}
 use Rattle.mz_events.specs.Holding.{changes_zones, AreAway}
 use Rattle.mz_events.specs.Standing.{Keeping, Stands}
-use Rattle.mz_register.specs.declared.pair.Pair.{Pair}
-use Rattle.mz_register.specs.Keepers.{keeper_count, place_at, keeper_spot, is_among, is_held}
-use Rattle.mz_register.specs.Pairs.{hand_among, owners}
-use Rattle.mz_register.specs.Lights.{slot_size, page_of_block, has_slot, is_slot_live, has_light, light_at}
-use Rattle.mz_register.specs.Account.{is_live}
-use Rattle.mz_register.specs.Rule.{AreInOneHand}
+use Rattle.mz_book.specs.declared.pair.Pair.{Pair}
+use Rattle.mz_book.specs.Keepers.{keeper_count, place_at, keeper_spot, is_among, is_held}
+use Rattle.mz_book.specs.Pairs.{hand_among, owners}
+use Rattle.mz_book.specs.Lights.{slot_size, page_of_block, has_slot, is_slot_live, has_light, light_at}
+use Rattle.mz_book.specs.Account.{is_live}
+use Rattle.mz_book.specs.Rule.{AreInOneHand}
 use Rattle.mz_desk.specs.declared.view.Since.{Since}
 use Rattle.mz_desk.specs.declared.view.TakenIn.{TakenIn}
 use Rattle.mz_desk.specs.declared.view.View.{View}

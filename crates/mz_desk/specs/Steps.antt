@@ -10,10 +10,10 @@ use Rattle.mz_events.specs.Changes.{one_for}
 use Rattle.mz_events.specs.History.{AreLawful, after_all}
 use Rattle.mz_events.specs.Holding.{AreAway}
 use Rattle.mz_events.specs.Standing.{Keeping, Stands}
-use Rattle.mz_register.specs.Keepers.{place_at, keeper_spot, is_held}
-use Rattle.mz_register.specs.Pairs.{hand_among, owners}
-use Rattle.mz_register.specs.Lights.{has_slot}
-use Rattle.mz_register.specs.Account.{is_live, IsRecord}
+use Rattle.mz_book.specs.Keepers.{place_at, keeper_spot, is_held}
+use Rattle.mz_book.specs.Pairs.{hand_among, owners}
+use Rattle.mz_book.specs.Lights.{has_slot}
+use Rattle.mz_book.specs.Account.{is_live, IsRecord}
 use Rattle.mz_desk.specs.declared.view.View.{View}
 use Rattle.mz_desk.specs.Views.{site_at, clashed, locked, looked, drawn, freed, lit, unlit, knowing, settled_first}
 use Rattle.mz_desk.specs.Needs.{Seated}

@@ -5,13 +5,13 @@ use Rattle.mz_base.specs.declared.profile.Profile.{Profile}
 use Rattle.mz_base.specs.Site.{Site}
 use Rattle.mz_events.specs.declared.entry.Entry.{Entry}
 use Rattle.mz_events.specs.declared.event.Event.{Event}
-use Rattle.mz_register.specs.declared.light.Asked.{Asked}
-use Rattle.mz_register.specs.declared.pair.Pair.{Pair}
-use Rattle.mz_register.specs.Account.{Account, entry_at}
-use Rattle.mz_register.specs.Calls.{without}
-use Rattle.mz_register.specs.Keepers.{is_among}
-use Rattle.mz_register.specs.Lights.{light_at, add_light, drop_light}
-use Rattle.mz_register.specs.Pairs.{pairs_after}
+use Rattle.mz_book.specs.declared.light.Asked.{Asked}
+use Rattle.mz_book.specs.declared.pair.Pair.{Pair}
+use Rattle.mz_book.specs.Account.{Account, entry_at}
+use Rattle.mz_book.specs.Calls.{without}
+use Rattle.mz_book.specs.Keepers.{is_among}
+use Rattle.mz_book.specs.Lights.{light_at, add_light, drop_light}
+use Rattle.mz_book.specs.Pairs.{pairs_after}
 use Rattle.mz_desk.specs.declared.view.SpaceName.{SpaceName}
 use Rattle.mz_desk.specs.declared.view.Load.{Load}
 use Rattle.mz_desk.specs.declared.view.Win.{Win}

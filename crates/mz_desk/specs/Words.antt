@@ -2,7 +2,7 @@
 -- each of its slots. This project's own.
 use Rattle.std.specs.Prelude.{ℕ, ◌+◌, ◌*◌, List, slice_index}
 use Rattle.mz_base.specs.declared.profile.Profile.{Profile}
-use Rattle.mz_register.specs.Keepers.{keeper_count}
+use Rattle.mz_book.specs.Keepers.{keeper_count}
 
 -- word 0 counts the entries
 

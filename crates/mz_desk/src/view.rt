@@ -2,7 +2,7 @@
 
 use mz_base::Profile;
 use mz_events::Entry;
-use mz_register::{Light, Pair};
+use mz_book::{Light, Pair};
 use std::collections::LinkedList;
 
 /// The space in which the keepers stand for their places.

@@ -20,8 +20,8 @@ use Rattle.mz_events.specs.History.{AreLawful, after_entry, after_all}
 use Rattle.mz_record.specs.Moments.{state_before, duty_left, first_some}
 use Rattle.mz_record.specs.Served.{Request, Regional, events, IsUndisturbed}
 use Rattle.mz_record.specs.Served.{IsServed as RecordServed, by_magazine as record_by_magazine, by_depot as record_by_depot, by_fresh_region as record_by_fresh_region, null_in_range as record_null_in_range}
-use Rattle.mz_register.specs.Account.{Account, state_of, known, HoldsNothing, holds_spot, entry_at}
-use Rattle.mz_register.specs.Growth.{Grows}
+use Rattle.mz_book.specs.Account.{Account, state_of, known, HoldsNothing, holds_spot, entry_at}
+use Rattle.mz_book.specs.Growth.{Grows}
 use Rattle.mz_rack.specs.declared.lot.Null.{Null}
 use Rattle.mz_rack.specs.declared.lot.Null.TheVariants.{Ranged}
 use Rattle.mz_rack.specs.declared.lot.Null.TheVariants as null

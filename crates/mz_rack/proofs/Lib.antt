@@ -12,4 +12,3 @@ mod Answered
 mod KeeperLemmas
 mod StockLemmas
 mod OpeningLemmas
-mod MomentLemmas

@@ -14,10 +14,10 @@ use Rattle.mz_events.specs.Places.{is_magazine, is_depot, is_size_of, depot_of, 
 use Rattle.mz_events.specs.State.{Value, Deed, is_open}
 use Rattle.mz_events.specs.Rules.{claim_of, is_lowest_with_room}
 use Rattle.mz_events.specs.Fitting.{IsStanding}
-use Rattle.mz_register.specs.Keepers.{is_held}
-use Rattle.mz_register.specs.Account.{Account, state_of, known, holds_spot, entry_at}
-use Rattle.mz_register.specs.Calls.{CanNote, Notes, Holds}
-use Rattle.mz_register.specs.Growth.{GrowsHolding}
+use Rattle.mz_book.specs.Keepers.{is_held}
+use Rattle.mz_book.specs.Account.{Account, state_of, known, holds_spot, entry_at}
+use Rattle.mz_book.specs.Calls.{CanNote, Notes, Holds}
+use Rattle.mz_book.specs.Growth.{GrowsHolding}
 use Rattle.mz_rack.specs.declared.lot.Null.{Null}
 use Rattle.mz_rack.specs.declared.way.Way.{Way}
 use Rattle.mz_rack.specs.BookLaws.{BookLaws}

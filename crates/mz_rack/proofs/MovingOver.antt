@@ -15,10 +15,10 @@ use Rattle.mz_events.specs.Room.{wide}
 use Rattle.mz_events.specs.Changes.{with_region, without_run, region_at}
 use Rattle.mz_events.specs.Rules.{is_lowest_with_room}
 use Rattle.mz_events.specs.Standing.{Keeping, Stands}
-use Rattle.mz_register.specs.Keepers.{is_held}
-use Rattle.mz_register.specs.Account.{Account, state_of, known, entry_at}
-use Rattle.mz_register.specs.Calls.{CanNote, Notes}
-use Rattle.mz_register.specs.Growth.{Grows, GrowsHolding}
+use Rattle.mz_book.specs.Keepers.{is_held}
+use Rattle.mz_book.specs.Account.{Account, state_of, known, entry_at}
+use Rattle.mz_book.specs.Calls.{CanNote, Notes}
+use Rattle.mz_book.specs.Growth.{Grows, GrowsHolding}
 use Rattle.mz_rack.specs.declared.way.Way.{Way}
 use Rattle.mz_rack.specs.declared.region.AnyRegion.{AnyRegion}
 use Rattle.mz_rack.specs.Regions.{run_in, view_in}

@@ -14,9 +14,9 @@ use Rattle.mz_events.specs.Places.{nano_start}
 use Rattle.mz_events.specs.State.{nothing_kept}
 use Rattle.mz_events.specs.Separation.{has_page}
 use Rattle.mz_events.specs.Standing.{Keeping, of_pages, PagesKept, Stands, StandsForPages, free_pages}
-use Rattle.mz_register.specs.Keepers.{zone_keepers, place_in_zone, place_at}
-use Rattle.mz_register.specs.Plain.{site_of, last_site, StandAtFirst}
-use Rattle.mz_register.specs.Rule.{IsThere}
+use Rattle.mz_book.specs.Keepers.{zone_keepers, place_in_zone, place_at}
+use Rattle.mz_book.specs.Plain.{site_of, last_site, StandAtFirst}
+use Rattle.mz_book.specs.Rule.{IsThere}
 
 pub last_is : (vs : List Keeping) (v : Keeping) → last_site (vs ++ v ∷ []) ≡ site_of v
 last_is [] v = refl

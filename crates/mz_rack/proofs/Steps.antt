@@ -18,11 +18,11 @@ use Rattle.mz_events.specs.Locality.{reads}
 use Rattle.mz_events.specs.Holding.{changes_zones, ReadsHeld}
 use Rattle.mz_events.specs.Fitting.{IsStanding}
 use Rattle.mz_events.specs.Standing.{Keeping, Stands}
-use Rattle.mz_register.specs.Keepers.{keeper_count, keeper_of, place_at, keeper_spot, is_among, is_held}
-use Rattle.mz_register.specs.Pairs.{is_in_hand}
-use Rattle.mz_register.specs.Account.{Account, state_of, known, holds_spot, hand, StandsFor}
-use Rattle.mz_register.specs.Calls.{CanHold, is_at_nano, CanNote, Notes, CanRelease, Releases, without}
-use Rattle.mz_register.specs.Growth.{IsSame, Grows}
+use Rattle.mz_book.specs.Keepers.{keeper_count, keeper_of, place_at, keeper_spot, is_among, is_held}
+use Rattle.mz_book.specs.Pairs.{is_in_hand}
+use Rattle.mz_book.specs.Account.{Account, state_of, known, holds_spot, hand, StandsFor}
+use Rattle.mz_book.specs.Calls.{CanHold, is_at_nano, CanNote, Notes, CanRelease, Releases, without}
+use Rattle.mz_book.specs.Growth.{IsSame, Grows}
 use Rattle.mz_rack.specs.declared.way.Way.{Way}
 use Rattle.mz_rack.specs.BookLaws.{BookLaws}
 use Rattle.mz_rack.specs.Ways.{IsWay}

@@ -18,10 +18,10 @@ use Rattle.mz_events.specs.Locality.{reads}
 use Rattle.mz_events.specs.Duties.{back_of_oldest}
 use Rattle.mz_events.specs.Changes.{with_region, with_run, pages_without}
 use Rattle.mz_events.specs.Standing.{Keeping, Stands}
-use Rattle.mz_register.specs.Keepers.{is_held}
-use Rattle.mz_register.specs.Account.{Account, state_of, known, holds_spot, entry_at}
-use Rattle.mz_register.specs.Calls.{CanNote, Notes, Holds}
-use Rattle.mz_register.specs.Growth.{Grows, GrowsHolding}
+use Rattle.mz_book.specs.Keepers.{is_held}
+use Rattle.mz_book.specs.Account.{Account, state_of, known, holds_spot, entry_at}
+use Rattle.mz_book.specs.Calls.{CanNote, Notes, Holds}
+use Rattle.mz_book.specs.Growth.{Grows, GrowsHolding}
 use Rattle.mz_rack.specs.declared.lot.Null.TheVariants.{Ranged}
 use Rattle.mz_rack.specs.declared.way.Way.{Way}
 use Rattle.mz_rack.specs.declared.region.AnyRegion.{AnyRegion}

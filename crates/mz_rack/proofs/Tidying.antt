@@ -18,7 +18,7 @@ use Rattle.mz_events.specs.Room.{wide}
 use Rattle.mz_events.specs.Changes.{region_at, without_run}
 use Rattle.mz_events.specs.Duties.{empty_depot_region}
 use Rattle.mz_events.specs.Rules.{is_lowest_with_room}
-use Rattle.mz_register.specs.Account.{Account, state_of, known}
+use Rattle.mz_book.specs.Account.{Account, state_of, known}
 use Rattle.mz_rack.specs.BookLaws.{BookLaws}
 use Rattle.mz_rack.specs.Asking.{IsTidy}
 use Rattle.mz_rack.proofs.Listed.{any_weaker, is_same_run, all_runs, all_blocks, run_of_all, region_there, begins_at, block_apart, left_of_dropped, begins_and}

@@ -19,8 +19,8 @@ use Rattle.mz_events.specs.Changes.{with_block}
 use Rattle.mz_events.specs.Rules.{Fits}
 use Rattle.mz_events.specs.Leaving.{left_by}
 use Rattle.mz_events.specs.Standing.{Keeping}
-use Rattle.mz_register.specs.Account.{Account, state_of, known}
-use Rattle.mz_register.specs.Calls.{CanNote, Notes}
+use Rattle.mz_book.specs.Account.{Account, state_of, known}
+use Rattle.mz_book.specs.Calls.{CanNote, Notes}
 use Rattle.mz_rack.specs.declared.way.Way.{Way}
 use Rattle.mz_rack.specs.BookLaws.{BookLaws}
 use Rattle.mz_rack.specs.Answering.{HasNoRoom, IsPlaced}

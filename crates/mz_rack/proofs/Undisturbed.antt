@@ -8,7 +8,7 @@ use Rattle.mz_events.specs.declared.entry.Entry.{Entry}
 use Rattle.mz_events.specs.Places.{Spot}
 use Rattle.mz_events.specs.Effect.{touches}
 use Rattle.mz_events.specs.Hands.{own}
-use Rattle.mz_register.specs.Growth.{is_own_touch, is_undisturbed}
+use Rattle.mz_book.specs.Growth.{is_own_touch, is_undisturbed}
 use Rattle.mz_rack.proofs.Steps.{or_elim}
 
 -- tickets are indices, counted from b on

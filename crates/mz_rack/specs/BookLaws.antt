@@ -21,10 +21,10 @@ use Rattle.mz_events.specs.Magazines.{IsOfRegions, HasDepot}
 use Rattle.mz_events.specs.Fitting.{FoundFull, FitsByEvent}
 use Rattle.mz_events.specs.Leaving.{left_by, LeavesByEvent}
 use Rattle.std.specs.List.{All, Contains}
-use Rattle.mz_register.specs.Keepers.{keeper_count, keeper_of, place_at, is_among, is_held}
-use Rattle.mz_register.specs.Account.{Account, entry_at}
-use Rattle.mz_register.specs.Calls.{Holds, CanNote, Notes, Releases}
-use Rattle.mz_register.specs.Growth.{Grows, GrowsHolding}
+use Rattle.mz_book.specs.Keepers.{keeper_count, keeper_of, place_at, is_among, is_held}
+use Rattle.mz_book.specs.Account.{Account, entry_at}
+use Rattle.mz_book.specs.Calls.{Holds, CanNote, Notes, Releases}
+use Rattle.mz_book.specs.Growth.{Grows, GrowsHolding}
 
 -- where all that is idle among some blocks is idle among others too, there is room among the others where there is among the first
 abbrev pub RoomStays : Type 0

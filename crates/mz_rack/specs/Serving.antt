@@ -10,8 +10,8 @@ use Rattle.mz_events.specs.declared.entry.Entry.{Entry}
 use Rattle.mz_events.specs.Places.{is_large}
 use Rattle.mz_events.specs.State.{is_open}
 use Rattle.mz_record.specs.Served.{events, Serves}
-use Rattle.mz_register.specs.Account.{Account, state_of, HoldsNothing}
-use Rattle.mz_register.specs.Growth.{Grows}
+use Rattle.mz_book.specs.Account.{Account, state_of, HoldsNothing}
+use Rattle.mz_book.specs.Growth.{Grows}
 use Rattle.mz_rack.specs.declared.lot.Null.{Null}
 use Rattle.mz_rack.specs.declared.lot.Null.TheVariants.{Ranged, Large}
 use Rattle.mz_rack.specs.Lots.{LotView}

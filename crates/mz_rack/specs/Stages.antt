@@ -16,8 +16,8 @@ use Rattle.mz_events.specs.Changes.{with_block, pages_without}
 use Rattle.mz_events.specs.Leaving.{left_by}
 use Rattle.mz_events.specs.Standing.{Keeping, Stands}
 use Rattle.mz_record.specs.Served.{events}
-use Rattle.mz_register.specs.Account.{Account, state_of, known, holds_spot, entry_at}
-use Rattle.mz_register.specs.Growth.{Grows, GrowsHolding}
+use Rattle.mz_book.specs.Account.{Account, state_of, known, holds_spot, entry_at}
+use Rattle.mz_book.specs.Growth.{Grows, GrowsHolding}
 use Rattle.mz_rack.specs.declared.lot.Null.{Null}
 use Rattle.mz_rack.specs.declared.lot.Null.TheVariants.{Ranged}
 use Rattle.mz_rack.specs.declared.lot.Null.TheVariants as null

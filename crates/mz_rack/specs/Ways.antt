@@ -5,7 +5,7 @@ use Rattle.mz_events.specs.declared.place.Place.TheVariants.{Pages, Large}
 use Rattle.mz_base.specs.Sizes.{good_size_of}
 use Rattle.mz_events.specs.Places.{is_magazine, exists_in, zone_of, depot_of, is_size_of, is_length_of}
 use Rattle.mz_record.specs.Served.{Request, regional_for}
-use Rattle.mz_register.specs.Keepers.{keeper_count, keeper_of}
+use Rattle.mz_book.specs.Keepers.{keeper_count, keeper_of}
 use Rattle.mz_rack.specs.declared.way.Way.{Way}
 
 -- a magazine, its depot, large of its zone and the free pages, with the pages of a region and their keepers' numbers

@@ -6,13 +6,14 @@ ghost use Rattle.mz_base.specs.Codes.{limits_once};
 ghost use Rattle.mz_rack.specs.Serving.{CanServe, Answers};
 
 use crate::keeper::Keeper;
-use crate::laws::{moments, of_books};
+use crate::laws::of_books;
 use crate::lot::{Lot, Null};
 use crate::serve::serve;
 use crate::way::find_way;
 use mz_base::{Profile, route, unit, units};
 use mz_events::laws::entries::states_split;
-use mz_register::Book;
+use mz_record::laws::moments;
+use mz_book::Book;
 use std::alloc::{AllocError, Global};
 use std::sync::Wait;
 

@@ -4,7 +4,7 @@ ghost use Rattle.mz_events.specs.declared.event.Event.TheVariants as event;
 ghost use Rattle.mz_events.specs.declared.place.Place.TheVariants as place;
 ghost use Rattle.mz_events.specs.Places.{depot_of};
 ghost use Rattle.mz_events.specs.Rules.{is_lowest_with_room};
-ghost use Rattle.mz_register.specs.Account.{known, entry_at};
+ghost use Rattle.mz_book.specs.Account.{known, entry_at};
 ghost use Rattle.mz_rack.specs.Ways.{IsWay};
 ghost use Rattle.mz_rack.specs.Answering.{IsCut};
 ghost use Rattle.mz_rack.specs.Stages.{Keeps, HasRoom, at_magazine, at_depot, at_pages, CanAsk, Ready, Tried, IsFull, HoldsBoth, IsMovedOver, AreFull, AllHeld, Seeks, IsFresh, LetsGo, Served};
@@ -16,7 +16,7 @@ use crate::region::AnyRegion;
 use crate::way::Way;
 use mz_events::Event;
 use mz_ground::Span;
-use mz_register::Book;
+use mz_book::Book;
 use std::sync::Wait;
 
 /// Serves a request for a block of `n` bytes, a size of the range, at the alignment `al`. Nothing is held before and

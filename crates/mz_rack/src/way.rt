@@ -1,7 +1,7 @@
 //! The places that serve a caller.
 ghost use Rattle.std.specs.Prelude.{◌≡◌, ◌+◌, ◌*◌, ◌<◌, ◌≤◌};
 ghost use Rattle.mz_base.specs.Limits.{IsWithinLimits};
-ghost use Rattle.mz_register.specs.Keepers.{zone_keepers};
+ghost use Rattle.mz_book.specs.Keepers.{zone_keepers};
 ghost use Rattle.mz_rack.specs.Ways.{IsWayFor};
 
 use mz_base::laws::good_size_is_least;

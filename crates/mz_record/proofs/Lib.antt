@@ -1,3 +1,4 @@
 mod ByteLemmas
 mod CalmLemmas
 mod MadeLemmas
+mod MomentLemmas

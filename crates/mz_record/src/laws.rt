@@ -1,13 +1,17 @@
 //! What holds of these definitions: each function's contract is a law.
 
-ghost use Rattle.std.specs.Prelude.{◌≡◌, ◌+◌, ◌≤◌, ℕ, true, List, [], map, length, not, Option, Some, IsTrue, Contains};
+ghost use Rattle.std.specs.Prelude.{◌≡◌, ◌+◌, ◌≤◌, ℕ, true, List, [], map, length, take, not, Option, Some, IsTrue, Contains};
 ghost use Rattle.std.specs.List.{list_all};
 ghost use Rattle.mz_base.specs.declared.profile.Profile.{Profile};
 ghost use Rattle.mz_base.specs.Space.{Block};
 ghost use Rattle.mz_events.specs.declared.entry.Entry.{Entry as entry};
+ghost use Rattle.mz_events.specs.State.{opening};
+ghost use Rattle.mz_events.specs.History.{AreLawful, after_all};
+ghost use Rattle.mz_record.specs.Moments.{state_before, state_at};
 ghost use Rattle.mz_record.specs.Bytes.{Bytes, fresh, cleared, filled, linked, kept_in_place, kept_in_move, is_shown_as};
 ghost use Rattle.mz_record.specs.Served.{Request, IsServed, IsUndisturbed, is_dry, first_made};
 
+use mz_events::laws::entries::tickets_are_indices;
 use mz_events::laws::holding::{what_an_event_leaves, what_an_event_reads};
 
 /// As many bytes are known or unknown as the block has.
@@ -43,4 +47,13 @@ pub fn served_is_made()
 {
     what_an_event_leaves();
     what_an_event_reads();
+}
+
+/// In a history that is lawful as it stands, the state before a ticket is the one after as many entries, and so is the state after the
+/// first entries.
+pub fn moments()
+    ensures before { (p : Profile) (h : List entry) (n : ℕ) → AreLawful p opening h → state_before p h n ≡ after_all p opening (take n h) }
+    ensures at { (p : Profile) (h : List entry) (n : ℕ) → AreLawful p opening h → state_at p h n ≡ after_all p opening (take n h) }
+{
+    tickets_are_indices();
 }

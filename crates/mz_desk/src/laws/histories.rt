@@ -3,7 +3,7 @@
 ghost use Rattle.mz_desk.specs.Laws.{DeskLaws};
 
 use mz_events::laws::{entries, holding, separation};
-use mz_register::laws::{notes, numbers, slots};
+use mz_book::laws::{notes, numbers, slots};
 
 /// They hold, all together.
 pub(crate) fn of_histories()

@@ -1,7 +1,7 @@
 use Rattle.std.proofs.Common.{◌≤◌, ap, subst, arith}
 use Rattle.mz_events.specs.Places.{depot_of}
 use Rattle.mz_events.specs.State.{Value}
-use Rattle.mz_register.specs.Account.{known}
+use Rattle.mz_book.specs.Account.{known}
 use Rattle.mz_rack.specs.Answering.{FoundRoom}
 use Rattle.mz_rack.specs.Stages.{at_depot}
 use Rattle.mz_rack.proofs.Steps.{can_hold, above_d, below_d, keeps_at, stands_then, plain_d, there_d}

@@ -2,7 +2,7 @@ use Rattle.std.proofs.Common.{◌≤◌, ap, refl, arith}
 use Rattle.mz_events.specs.declared.place.Place.TheVariants.{Pages, Large}
 use Rattle.mz_events.specs.Places.{depot_of}
 use Rattle.mz_events.specs.State.{Value}
-use Rattle.mz_register.specs.Account.{known}
+use Rattle.mz_book.specs.Account.{known}
 use Rattle.mz_rack.specs.Stages.{at_large, at_pages}
 use Rattle.mz_rack.proofs.Steps.{can_same, can_hold, above_l, above_p, below_l, below_p, keeps_at, stands_then, zone_below}
 use Rattle.mz_rack.proofs.Taking.{held_two, held_after_l, way_after_l, can_dry, dried, may_take, served_fresh, served_null}

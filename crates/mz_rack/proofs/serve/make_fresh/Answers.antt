@@ -1,7 +1,7 @@
 use Rattle.std.proofs.Common.{ap, sym, subst, arith}
 use Rattle.mz_events.specs.declared.event.Event.TheVariants.{Take}
-use Rattle.mz_register.specs.Account.{known}
-use Rattle.mz_register.specs.Calls.{CanNote, Notes}
+use Rattle.mz_book.specs.Account.{known}
+use Rattle.mz_book.specs.Calls.{CanNote, Notes}
 use Rattle.std.specs.Prelude.{◌||◌}
 use Rattle.mz_events.specs.Places.{is_depot}
 use Rattle.mz_rack.specs.Stages.{at_magazine}

@@ -1,7 +1,7 @@
 use Rattle.std.proofs.Common.{ap, ◌∙◌, arith}
 use Rattle.mz_events.specs.Places.{depot_of}
 use Rattle.mz_events.specs.State.{Value}
-use Rattle.mz_register.specs.Account.{known}
+use Rattle.mz_book.specs.Account.{known}
 use Rattle.std.specs.Prelude.{◌||◌}
 use Rattle.mz_events.specs.Places.{is_depot}
 use Rattle.mz_rack.specs.Stages.{at_magazine, at_depot}

@@ -1,8 +1,8 @@
 use Rattle.std.proofs.Common.{ap, sym, subst}
 use Rattle.mz_events.specs.declared.event.Event.TheVariants.{New}
 use Rattle.mz_events.specs.State.{Value}
-use Rattle.mz_register.specs.Account.{known}
-use Rattle.mz_register.specs.Calls.{CanNote, Notes}
+use Rattle.mz_book.specs.Account.{known}
+use Rattle.mz_book.specs.Calls.{CanNote, Notes}
 use Rattle.mz_rack.specs.Stages.{at_magazine}
 use Rattle.mz_rack.proofs.Steps.{stands_then}
 use Rattle.mz_rack.proofs.Trying.{can_new, can_full, tried_new, tried_full, may_ask}

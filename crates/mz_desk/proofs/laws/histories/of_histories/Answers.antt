@@ -1,5 +1,5 @@
 use Rattle.std.proofs.Common.{ap, ◌∙◌}
-use Rattle.mz_register.specs.Keepers.{place_at, is_among}
+use Rattle.mz_book.specs.Keepers.{place_at, is_among}
 use Rattle.mz_desk.proofs.laws.histories.of_histories.Goals as goal
 
 pub returns : goal.returns

@@ -3,8 +3,8 @@ use Rattle.mz_base.specs.declared.range.TheConstants.{PAGE}
 use Rattle.mz_events.specs.declared.place.Place.TheVariants.{Pages}
 use Rattle.mz_events.specs.State.{nothing_kept}
 use Rattle.mz_events.specs.Standing.{PagesKept, of_pages, Stands, StandsForPages}
-use Rattle.mz_register.specs.Keepers.{zone_keepers, place_in_zone}
-use Rattle.mz_register.specs.Plain.{last_site, StandAtFirst}
+use Rattle.mz_book.specs.Keepers.{zone_keepers, place_in_zone}
+use Rattle.mz_book.specs.Plain.{last_site, StandAtFirst}
 use Rattle.mz_rack.proofs.OpeningLemmas.{AreOfZones, none_yet, one_more, all_stand, first_pages, last_is}
 use Rattle.mz_rack.proofs.keeper.Keeper.all.Goals as goal
 

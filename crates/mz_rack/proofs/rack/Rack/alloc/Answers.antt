@@ -3,7 +3,7 @@ use Rattle.mz_base.specs.declared.profile.Profile.{Profile}
 use Rattle.mz_base.specs.Sizes.{good_size_of, unit_of, units_of}
 use Rattle.mz_events.specs.Places.{is_size_of}
 use Rattle.mz_events.specs.State.{is_open}
-use Rattle.mz_register.specs.Account.{state_of}
+use Rattle.mz_book.specs.Account.{state_of}
 use Rattle.mz_rack.specs.Ways.{IsWayFor}
 use Rattle.mz_rack.specs.Stages.{Served}
 use Rattle.mz_rack.specs.Serving.{Answers}

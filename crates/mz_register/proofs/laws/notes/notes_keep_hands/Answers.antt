@@ -1,5 +1,0 @@
-use Rattle.mz_register.proofs.NoteLemmas.{note_is_kept}
-use Rattle.mz_register.proofs.laws.notes.notes_keep_hands.Goals as goal
-
-pub returns : goal.returns
-returns c = λ s e hands can. note_is_kept c.of_histories.ensures c.live_blocks_after_an_event.ensures s hands e can

@@ -1,5 +1,0 @@
-use Rattle.mz_register.proofs.NumberLemmas.{held_place}
-use Rattle.mz_register.proofs.laws.numbers.held_places.Goals as goal
-
-pub returns-clause-place : goal.returns-clause-place
-returns-clause-place c = held_place

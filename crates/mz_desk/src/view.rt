@@ -1,8 +1,8 @@
 //! What a seat of a register knows. No value of these types is made: they are for proofs alone.
 
 use mz_base::Profile;
-use mz_events::Entry;
 use mz_book::{Light, Pair};
+use mz_events::Entry;
 use std::collections::LinkedList;
 
 /// The space in which the keepers stand for their places.

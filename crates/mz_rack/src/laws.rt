@@ -2,8 +2,8 @@
 
 ghost use Rattle.mz_rack.specs.BookLaws.{BookLaws};
 
-use mz_events::laws::{entries, events, holding, places, separation};
 use mz_book::laws::{growth, numbers};
+use mz_events::laws::{entries, events, holding, places, separation};
 
 /// They hold, all together.
 pub(crate) fn of_books()

@@ -11,9 +11,9 @@ use crate::lot::{Lot, Null};
 use crate::serve::serve;
 use crate::way::find_way;
 use mz_base::{Profile, route, unit, units};
+use mz_book::Book;
 use mz_events::laws::entries::states_split;
 use mz_record::laws::moments;
-use mz_book::Book;
 use std::alloc::{AllocError, Global};
 use std::sync::Wait;
 

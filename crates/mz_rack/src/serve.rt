@@ -14,9 +14,9 @@ use crate::laws::of_books;
 use crate::lot::Null;
 use crate::region::AnyRegion;
 use crate::way::Way;
+use mz_book::Book;
 use mz_events::Event;
 use mz_ground::Span;
-use mz_book::Book;
 use std::sync::Wait;
 
 /// Serves a request for a block of `n` bytes, a size of the range, at the alignment `al`. Nothing is held before and

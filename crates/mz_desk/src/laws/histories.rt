@@ -2,8 +2,8 @@
 
 ghost use Rattle.mz_desk.specs.Laws.{DeskLaws};
 
-use mz_events::laws::{entries, holding, separation};
 use mz_book::laws::{notes, numbers, slots};
+use mz_events::laws::{entries, holding, separation};
 
 /// They hold, all together.
 pub(crate) fn of_histories()

@@ -15,10 +15,11 @@
 mod entries;
 pub mod fault;
 pub mod laws;
+mod line;
 mod listings;
 mod outcomes;
 mod parser;
-mod reader;
+mod stage;
 
 pub use fault::RunFault;
 pub use parser::parse_run;

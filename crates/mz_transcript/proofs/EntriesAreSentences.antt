@@ -25,7 +25,7 @@ use Rattle.mz_trace.specs.TailTexts.{listed_sentence, listed_words, listed_fits}
 use Rattle.mz_trace.specs.RunTexts.{step_words}
 use Rattle.mz_trace.specs.RunForms.{step_fits}
 use Rattle.mz_transcript.specs.Entries.{event_of, event_in, step_in}
-use Rattle.mz_transcript.specs.Outcomes.{answer_of, answer_in}
+use Rattle.mz_transcript.specs.Outcomes.{bare_answer, counting_answer, telling_answer, answer_of, answer_in}
 use Rattle.mz_transcript.specs.Listings.{listed_of, listed_in}
 use Rattle.mz_transcript.proofs.TextLaws.{TextLaws, bind_parts, some_same}
 use Rattle.mz_transcript.proofs.ValuesAreSentences.{Converts, again, spelled, visible, few_words}
@@ -76,29 +76,40 @@ answer_kinds : (x : Answer) → map kind_of (answer_sentence x).words ≡ kinds_
 answer_kinds answer.Held = refl
 answer_kinds _ = refl
 
+bare_back : (f : Form) (x : Answer) → bare_answer f ≡ Some x → answer_sentence x ≡ sentence f []
+bare_back form.Held x h = of_some answer_sentence _ x _ h refl
+bare_back form.NoZone x h = of_some answer_sentence _ x _ h refl
+bare_back form.Overflow x h = of_some answer_sentence _ x _ h refl
+bare_back form.BadAlign x h = of_some answer_sentence _ x _ h refl
+bare_back form.NotHeld x h = of_some answer_sentence _ x _ h refl
+bare_back form.OutOfRange x h = of_some answer_sentence _ x _ h refl
+bare_back form.NameTaken x h = of_some answer_sentence _ x _ h refl
+bare_back form.TooMany x h = of_some answer_sentence _ x _ h refl
+bare_back form.IsDefault x h = of_some answer_sentence _ x _ h refl
+bare_back form.Null x h = of_some answer_sentence _ x _ h refl
+bare_back form.Nowhere x h = of_some answer_sentence _ x _ h refl
+bare_back form.Done x h = of_some answer_sentence _ x _ h refl
+bare_back form.NotLive x h = of_some answer_sentence _ x _ h refl
+bare_back _ x h = absurd cc
+
+counting_back : (f : Form) (n : ℕ) (x : Answer) → counting_answer f n ≡ Some x → answer_sentence x ≡ sentence f (word.Number n ∷ [])
+counting_back form.WrongSize n x h = of_some answer_sentence _ x _ h refl
+counting_back form.HasLive n x h = of_some answer_sentence _ x _ h refl
+counting_back form.SizeIs n x h = of_some answer_sentence _ x _ h refl
+counting_back form.Got n x h = of_some answer_sentence _ x _ h refl
+counting_back form.Freed n x h = of_some answer_sentence _ x _ h refl
+counting_back _ n x h = absurd cc
+
+telling_back : (f : Form) (ws : List Word) (x : Answer) → telling_answer f ws ≡ Some x → answer_sentence x ≡ sentence f ws
+telling_back form.Block (word.Number a ∷ word.Number s ∷ []) x h = of_some answer_sentence _ x _ h refl
+telling_back form.Bytes (word.Bytes shown ∷ []) x h = of_some answer_sentence _ x _ h refl
+telling_back form.InZone (word.Zone name ∷ []) x h = of_some answer_sentence _ x _ h refl
+telling_back f (word.Number n ∷ []) x h = counting_back f n x h
+telling_back _ _ x h = absurd cc
+
 answer_back : (f : Form) (ws : List Word) (x : Answer) → answer_of f ws ≡ Some x → answer_sentence x ≡ sentence f ws
-answer_back form.Held [] x h = of_some answer_sentence _ x _ h refl
-answer_back form.NoZone [] x h = of_some answer_sentence _ x _ h refl
-answer_back form.Overflow [] x h = of_some answer_sentence _ x _ h refl
-answer_back form.BadAlign [] x h = of_some answer_sentence _ x _ h refl
-answer_back form.NotHeld [] x h = of_some answer_sentence _ x _ h refl
-answer_back form.WrongSize (word.Number s ∷ []) x h = of_some answer_sentence _ x _ h refl
-answer_back form.OutOfRange [] x h = of_some answer_sentence _ x _ h refl
-answer_back form.NameTaken [] x h = of_some answer_sentence _ x _ h refl
-answer_back form.TooMany [] x h = of_some answer_sentence _ x _ h refl
-answer_back form.IsDefault [] x h = of_some answer_sentence _ x _ h refl
-answer_back form.HasLive (word.Number n ∷ []) x h = of_some answer_sentence _ x _ h refl
-answer_back form.Null [] x h = of_some answer_sentence _ x _ h refl
-answer_back form.Nowhere [] x h = of_some answer_sentence _ x _ h refl
-answer_back form.Done [] x h = of_some answer_sentence _ x _ h refl
-answer_back form.NotLive [] x h = of_some answer_sentence _ x _ h refl
-answer_back form.Block (word.Number a ∷ word.Number s ∷ []) x h = of_some answer_sentence _ x _ h refl
-answer_back form.SizeIs (word.Number s ∷ []) x h = of_some answer_sentence _ x _ h refl
-answer_back form.Bytes (word.Bytes shown ∷ []) x h = of_some answer_sentence _ x _ h refl
-answer_back form.Got (word.Number n ∷ []) x h = of_some answer_sentence _ x _ h refl
-answer_back form.Freed (word.Number n ∷ []) x h = of_some answer_sentence _ x _ h refl
-answer_back form.InZone (word.Zone name ∷ []) x h = of_some answer_sentence _ x _ h refl
-answer_back _ _ x h = absurd cc
+answer_back f [] x h = bare_back f x h
+answer_back f (w ∷ ws) x h = telling_back f (w ∷ ws) x h
 
 answers : Converts Answer ANSWERS answer_sentence answer_of
 answers = record { told = answer_told; form = answer_form; kinds = answer_kinds; back = answer_back }

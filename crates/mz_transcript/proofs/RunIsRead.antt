@@ -106,9 +106,9 @@ Once given ks = (base : List ℕ) → cond (has_name given base) 1 0 + count_by 
 once_next : (given now : List (List ℕ)) (k : Command) (ks : List Command) (o : Option (List ℕ)) → given_by k ≡ o
     → ((base : List ℕ) → cond (has_name now base) 1 0 ≡ cond (has_name given base) 1 0 + cond (gives o base) 1 0) → Once given (k ∷ ks) → Once now ks
 once_next given now k ks o e more h = λ base.
-  let first = sum_by-cons (λ (y : Command). cond (command_gives base y) 1 0) k ks in
-  let here = ap (λ (t : Bool). let n : ℕ = cond t 1 0 in n) (gives_named k base ∙ ap (λ (x : Option (List ℕ)). gives x base) e) in
-  omega (arith, first, here, h base, more base)
+    let first = sum_by-cons (λ (y : Command). cond (command_gives base y) 1 0) k ks in
+    let here = ap (λ (t : Bool). let n : ℕ = cond t 1 0 in n) (gives_named k base ∙ ap (λ (x : Option (List ℕ)). gives x base) e) in
+    omega (arith, first, here, h base, more base)
 
 none_before : (t : Bool) (n : ℕ) → cond t 1 0 + (1 + n) ≤ 1 → t ≡ false
 none_before true n h = absurd (omega arith)

@@ -185,7 +185,7 @@ read_is_written laws (due.Call callers) [] v h = absurd cc
 read_is_written laws (due.Call callers) (w ∷ ws) v h =
     behind_word callers w (codes ">") ws (call_line_in callers ws) (heading_of w ws) v h
     (λ k. value_spelled callers (codes ">" ∷ ws) (command_in callers ws) line.Call v k
-      (λ x e. let s = laws.lines.command_spelled callers ws x e in (more_words (codes ">") ws _ s.0, s.1)))
+    (λ x e. let s = laws.lines.command_spelled callers ws x e in (more_words (codes ">") ws _ s.0, s.1)))
     (heading_spelled laws callers w ws v)
 read_is_written laws due.Told [] v h = absurd cc
 read_is_written laws due.Told (w ∷ ws) v h =

@@ -225,7 +225,7 @@ starts_sound b ss (line.Start x) h k = record {
   valid = record { limits = h.limits; rounds = h.rounds; few = h.few; part = (h.part, and_from _ _ k refl); names = h.names };
 }
 starts_sound b ss (line.Caller n) h k = only_if (Rounds b (Starts ss)) (line.Caller n) (eqb n 0) (Rounds b (Section ss [] [])) (λ zero.
-  subst (λ (m : ℕ). Grows (Rounds b (Starts ss)) (line.Caller m) (Rounds b (Section ss [] []))) (sym (eqb-true n 0 zero)) (first_section b ss h))
+    subst (λ (m : ℕ). Grows (Rounds b (Starts ss)) (line.Caller m) (Rounds b (Section ss [] []))) (sym (eqb-true n 0 zero)) (first_section b ss h))
 starts_sound b ss _ h k = tt
 
 -- the section of a further caller
@@ -277,15 +277,15 @@ closed_lines : (b : Book) (ss : List StartRecord) (ls : List (List CallRecord)) 
 closed_lines b ss ls cs = ap (λ (x : Text). first_words ∷ space_words b.profile ∷ x)
     (append-nil _ ∙ flat_map-append run_round_lines b.rounds (round_of ss ls cs ∷ [])
     ∙ ap (λ (x : Text). flat_map run_round_lines b.rounds ++ x)
-      (append-nil _ ∙ ap (λ (x : Text). (codes "round" ∷ []) ∷ (flat_map start_record_lines ss ++ x)) (sections_more ls cs)))
+    (append-nil _ ∙ ap (λ (x : Text). (codes "round" ∷ []) ∷ (flat_map start_record_lines ss ++ x)) (sections_more ls cs)))
 
 opened_sound : (s : Stage) (b : Book) → RoundsFit b Outside → written (Rounds b Outside) ≡ written s → Sound s line.Round (opened b)
 opened_sound s b h e = unless s line.Round (is_full b.rounds) (Rounds b (Starts [])) (λ room.
-  let shape : written (Rounds b (Starts [])) ≡ written (Rounds b Outside) ++ (codes "round" ∷ []) ∷ [] = simp append-nil in
-  record {
-    lines = shape ∙ ap (λ (x : Text). x ++ (codes "round" ∷ []) ∷ []) e;
-    valid = record { limits = h.limits; rounds = h.rounds; few = omega (arith, leb-false _ _ room); part = refl; names = h.names };
-  })
+    let shape : written (Rounds b (Starts [])) ≡ written (Rounds b Outside) ++ (codes "round" ∷ []) ∷ [] = simp append-nil in
+    record {
+      lines = shape ∙ ap (λ (x : Text). x ++ (codes "round" ∷ []) ∷ []) e;
+      valid = record { limits = h.limits; rounds = h.rounds; few = omega (arith, leb-false _ _ room); part = refl; names = h.names };
+    })
 
 at_most_one : (t : Bool) → cond t 1 0 ≤ 1
 at_most_one true = omega arith
@@ -334,9 +334,9 @@ one_more_name laws given name base new =
 names_more : (given now : List (List ℕ)) (ks : List Command) (k : Command) (o : Option (List ℕ)) → given_by k ≡ o
     → ((base : List ℕ) → cond (has_name now base) 1 0 ≡ cond (has_name given base) 1 0 + cond (gives o base) 1 0) → NamesOnce given ks → NamesOnce now (ks ++ k ∷ [])
 names_more given now ks k o e more h = λ base.
-  let push = sum_by-append (λ (y : Command). cond (command_gives base y) 1 0) ks (k ∷ []) in
-  let here = ap (λ (t : Bool). let n : ℕ = cond t 1 0 in n) (gives_named k base ∙ ap (λ (x : Option (List ℕ)). gives x base) e) in
-  push ∙ (let sum : count_by (command_gives base) ks + (0 + cond (command_gives base k) 1 0) ≡ cond (has_name now base) 1 0 = omega (arith, here, h base, more base) in sum)
+    let push = sum_by-append (λ (y : Command). cond (command_gives base y) 1 0) ks (k ∷ []) in
+    let here = ap (λ (t : Bool). let n : ℕ = cond t 1 0 in n) (gives_named k base ∙ ap (λ (x : Option (List ℕ)). gives x base) e) in
+    push ∙ (let sum : count_by (command_gives base) ks + (0 + cond (command_gives base k) 1 0) ≡ cond (has_name now base) 1 0 = omega (arith, here, h base, more base) in sum)
 
 -- a command
 call_opens : (b : Book) (given : List (List ℕ)) (ss : List StartRecord) (ls : List (List CallRecord)) (cs : List CallRecord) (k : Command) → RoundsFit b (Section ss ls cs)
@@ -362,11 +362,11 @@ section_sound : TextLaws → (b : Book) (ss : List StartRecord) (ls : List (List
 section_sound laws b ss ls cs (line.Call k) h fits = asked_sound laws b ss ls cs k (given_by k) refl h fits
 section_sound laws b ss ls cs (line.Caller n) h fits =
     only_if (Rounds b (Section ss ls cs)) (line.Caller n) (eqb n (length ls + 1) && ltb n b.profile.callers) (Rounds b (Section ss (ls ++ cs ∷ []) [])) (λ t.
-      let p = and_parts (eqb n (length ls + 1)) (ltb n b.profile.callers) t in
-      let place = eqb-true n (length ls + 1) p.0 in
-      let within = ltb-true n b.profile.callers p.1 in
-      subst (λ (m : ℕ). Grows (Rounds b (Section ss ls cs)) (line.Caller m) (Rounds b (Section ss (ls ++ cs ∷ []) []))) (sym place)
-      (further_section b ss ls cs h (omega (arith, place, within))))
+    let p = and_parts (eqb n (length ls + 1)) (ltb n b.profile.callers) t in
+    let place = eqb-true n (length ls + 1) p.0 in
+    let within = ltb-true n b.profile.callers p.1 in
+    subst (λ (m : ℕ). Grows (Rounds b (Section ss ls cs)) (line.Caller m) (Rounds b (Section ss (ls ++ cs ∷ []) []))) (sym place)
+    (further_section b ss ls cs h (omega (arith, place, within))))
 section_sound laws b ss ls cs line.Round h fits =
     then_sound (Rounds b (Section ss ls cs)) line.Round (eqb (length ls + 1) b.profile.callers) (with_round b (round_of ss ls cs)) opened
     (λ t. opened_sound (Rounds b (Section ss ls cs)) (with_round b (round_of ss ls cs)) (round_closes b ss ls cs h (eqb-true _ _ t)) (closed_lines b ss ls cs))

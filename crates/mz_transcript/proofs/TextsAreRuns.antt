@@ -164,6 +164,7 @@ read_is_text laws bytes r t e = at_end (stopped (cuts bytes) First 1) where
   behind lines [] at parts reads stops =
       ended_text laws bytes r t lines (parts ∙ append-nil _) (reads ∙ ap (λ (x : Stage). Some x) (finished_is at (1 + length lines) r t (sym e ∙ stops)))
   behind lines (l ∷ ls) at parts reads stops = absurd (not_both (r, t) (1 + length lines) (sym e ∙ stops.0))
+
   at_end : Stopped First 1 (cuts bytes) (reading First 1 (cuts bytes)) → IsRunText bytes r t
   at_end c = behind c.lines c.rest c.at c.parts c.reads c.stops
 

@@ -112,9 +112,12 @@ in_section b ss ls cs line.Round = closed b ss ls cs >>= opened
 in_section b ss ls cs line.End = closed b ss ls cs >>= λ c. Some (ended c)
 in_section b ss ls cs _ = None
 
+abbrev pub call_closed : Book → List StartRecord → List (List CallRecord) → List CallRecord → CallRecord → Option Stage
+call_closed b ss ls cs d = Some (Rounds b (Section ss ls (cs ++ d ∷ [])))
+
 abbrev pub call_told : Book → List StartRecord → List (List CallRecord) → List CallRecord → Command → List Step → RunLine → Option Stage
 call_told b ss ls cs k es (line.Entry e) = Some (Rounds b (Call ss ls cs k (es ++ e ∷ [])))
-call_told b ss ls cs k es (line.Answer a) = Some (Rounds b (Section ss ls (cs ++ record { command = k; steps = es; answer = a } ∷ [])))
+call_told b ss ls cs k es (line.Answer a) = call_closed b ss ls cs (record { command = k; steps = es; answer = a })
 call_told b ss ls cs k es _ = None
 
 abbrev pub rounds_with : Book → Part → RunLine → Option Stage

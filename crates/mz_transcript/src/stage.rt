@@ -2,7 +2,7 @@
 
 ghost use Rattle.std.specs.Prelude.{◌≡◌, IfOk, MatchResult};
 ghost use Rattle.mz_words.specs.Lines.{cut_of};
-ghost use Rattle.mz_transcript.specs.Stages.{blank_book, call_told, asked, closed, due_in, due_of, due_statistic, ended, finished, in_section, in_starts, in_tail, is_full, known_with, next_section, opened, outside, rounds_with, start_told, with_line, stage_read, good, FaultIs};
+ghost use Rattle.mz_transcript.specs.Stages.{blank_book, call_closed, call_told, asked, closed, due_in, due_of, due_statistic, ended, finished, in_section, in_starts, in_tail, is_full, known_with, next_section, opened, outside, rounds_with, start_told, with_line, stage_read, good, FaultIs};
 
 use crate::fault::RunFault;
 use crate::line::{Counter, Due, RunLine, read_line};
@@ -30,7 +30,9 @@ pub enum Part {
     /// No round was begun.
     Outside,
     /// The records of the lines at its start.
-    Starts { starts: Items<StartRecord> },
+    Starts {
+        starts: Items<StartRecord>,
+    },
     /// The record of one of these lines.
     Start {
         starts: Items<StartRecord>,
@@ -71,7 +73,10 @@ pub enum Stage {
     /// The first line.
     Second,
     /// Rounds.
-    Rounds { book: Book, part: Part },
+    Rounds {
+        book: Book,
+        part: Part,
+    },
     /// The run, and a part of what stands behind it.
     Tail {
         run: Run,
@@ -300,12 +305,7 @@ fn outside(alloc: Global, book: Book, line: RunLine) -> Option<Stage>
 }
 
 /// A line at the start of a round, or the first caller's section.
-fn in_starts(
-    alloc: Global,
-    book: Book,
-    starts: Items<StartRecord>,
-    line: RunLine,
-) -> Option<Stage>
+fn in_starts(alloc: Global, book: Book, starts: Items<StartRecord>, line: RunLine) -> Option<Stage>
     ensures { result ≡ in_starts book starts line }
 {
     match line {
@@ -472,21 +472,34 @@ fn call_told(
             Ok(Some(Stage::Rounds { book, part }))
         }
         RunLine::Answer { answer } => {
-            let mut calls = calls;
-            calls.push(CallRecord {
+            let record = CallRecord {
                 command,
                 steps,
                 answer,
-            })?;
-            let part = Part::Section {
-                starts,
-                lists,
-                calls,
             };
-            Ok(Some(Stage::Rounds { book, part }))
+            close_call(book, starts, lists, calls, record)
         }
         _ => Ok(None),
     }
+}
+
+/// The record of a command ends.
+fn close_call(
+    book: Book,
+    starts: Items<StartRecord>,
+    lists: Items<Items<CallRecord>>,
+    mut calls: Items<CallRecord>,
+    record: CallRecord,
+) -> Result<Option<Stage>, AllocError>
+    ensures { IfOk result (λ s. s ≡ call_closed book starts lists calls record) }
+{
+    calls.push(record)?;
+    let part = Part::Section {
+        starts,
+        lists,
+        calls,
+    };
+    Ok(Some(Stage::Rounds { book, part }))
 }
 
 /// One more line behind the rounds.

@@ -15,7 +15,7 @@ use mz_words::numbers::number;
 use std::alloc::{AllocError, Global};
 
 /// One of the four numbers at the end of a run.
-#[derive(Clone, Copy, Debug, PartialEq, Eq)]
+#[derive(Clone, Copy)]
 pub enum Counter {
     BlocksInUse,
     SizeInUse,
@@ -38,7 +38,7 @@ impl Counter {
 }
 
 /// A line of a printed run.
-#[derive(Clone, Copy, Debug, PartialEq, Eq)]
+#[derive(Clone, Copy)]
 pub enum RunLine {
     /// `mzone-run 1`.
     First,
@@ -65,7 +65,7 @@ pub enum RunLine {
 }
 
 /// What may come next.
-#[derive(Clone, Copy, Debug, PartialEq, Eq)]
+#[derive(Clone, Copy)]
 pub enum Due {
     /// The first line.
     First,

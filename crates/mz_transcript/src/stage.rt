@@ -56,7 +56,7 @@ pub enum Part {
 }
 
 /// The statistics so far.
-#[derive(Clone, Copy, Debug, PartialEq, Eq)]
+#[derive(Clone, Copy)]
 pub enum Known {
     Nothing,
     Blocks { blocks: u64 },
@@ -472,12 +472,12 @@ fn call_told(
             Ok(Some(Stage::Rounds { book, part }))
         }
         RunLine::Answer { answer } => {
-            let record = CallRecord {
+            let call = CallRecord {
                 command,
                 steps,
                 answer,
             };
-            close_call(book, starts, lists, calls, record)
+            close_call(book, starts, lists, calls, call)
         }
         _ => Ok(None),
     }
@@ -489,11 +489,11 @@ fn close_call(
     starts: Items<StartRecord>,
     lists: Items<Items<CallRecord>>,
     mut calls: Items<CallRecord>,
-    record: CallRecord,
+    call: CallRecord,
 ) -> Result<Option<Stage>, AllocError>
-    ensures { IfOk result (λ s. s ≡ call_closed book starts lists calls record) }
+    ensures { IfOk result (λ s. s ≡ call_closed book starts lists calls call) }
 {
-    calls.push(record)?;
+    calls.push(call)?;
     let part = Part::Section {
         starts,
         lists,

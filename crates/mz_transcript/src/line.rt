@@ -1,6 +1,7 @@
 //! The lines of a printed run, from their words, and which of them may come next.
 
 ghost use Rattle.std.specs.Prelude.{◌≡◌, IfOk, map};
+ghost use Rattle.mz_words.specs.Lines.{words_of};
 ghost use Rattle.mz_transcript.specs.RunLines.{answer_line_in, bare_heading, block_in, call_line_in, call_or_heading_in, caller_heading, counted, counter_word, entry_line_in, first_in, heading_in, heading_of, line_in, listed_line_in, space_in, start_line_in, start_or_heading_in, statistic_in, told_in};
 
 use crate::entries::read_step;
@@ -12,6 +13,7 @@ use mz_trace::round::read_start;
 use mz_trace::space::read_space;
 use mz_trace::{Answer, Command, Listed, RoundLine, Step};
 use mz_words::numbers::number;
+use mz_words::words;
 use std::alloc::{AllocError, Global};
 
 /// One of the four numbers at the end of a run.
@@ -87,8 +89,16 @@ pub enum Due {
     Nothing,
 }
 
+/// The line that a text is where this is due, or None where it is none.
+pub fn read_text(alloc: Global, due: Due, text: &[u8]) -> Result<Option<RunLine>, AllocError>
+    ensures { IfOk result (λ o. o ≡ line_in due (words_of text.now)) }
+{
+    let words = words(alloc, text)?;
+    read_line(alloc, due, &words)
+}
+
 /// The line that words are where this is due, or None where they are none.
-pub fn read_line(alloc: Global, due: Due, words: &[&[u8]]) -> Result<Option<RunLine>, AllocError>
+fn read_line(alloc: Global, due: Due, words: &[&[u8]]) -> Result<Option<RunLine>, AllocError>
     ensures { IfOk result (λ o. o ≡ line_in due (map (λ w. w.now) words.now)) }
 {
     match due {

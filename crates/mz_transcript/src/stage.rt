@@ -5,7 +5,7 @@ ghost use Rattle.mz_words.specs.Lines.{cut_of};
 ghost use Rattle.mz_transcript.specs.Stages.{blank_book, call_closed, call_told, asked, closed, due_in, due_of, due_statistic, ended, finished, in_section, in_starts, in_tail, is_full, known_with, next_section, opened, outside, rounds_with, start_told, with_line, stage_read, good, FaultIs};
 
 use crate::fault::RunFault;
-use crate::line::{Counter, Due, RunLine, read_line};
+use crate::line::{Counter, Due, RunLine, read_text};
 use mz_base::{Items, Profile};
 use mz_trace::given::{GivenNames, given_by};
 use mz_trace::round::MOST_ROUNDS;
@@ -13,7 +13,7 @@ use mz_trace::{
     CallRecord, Command, Figures, Listed, RoundLine, Run, RunRound, StartRecord, Statistics, Step,
 };
 use mz_words::line::is_short;
-use mz_words::{RawLine, words};
+use mz_words::RawLine;
 use std::alloc::{AllocError, Global};
 
 /// The profile, the names under which blocks were given, and the rounds that are closed.
@@ -93,8 +93,7 @@ impl Stage {
         if !is_short(line) {
             return Ok(None);
         }
-        let words = words(alloc, line.text)?;
-        match read_line(alloc, self.due(), &words)? {
+        match read_text(alloc, self.due(), line.text)? {
             None => Ok(None),
             Some(line) => self.with_line(alloc, line),
         }

@@ -12,8 +12,8 @@ use mz_trace::round::MOST_ROUNDS;
 use mz_trace::{
     CallRecord, Command, Figures, Listed, RoundLine, Run, RunRound, StartRecord, Statistics, Step,
 };
-use mz_words::line::is_short;
 use mz_words::RawLine;
+use mz_words::line::is_short;
 use std::alloc::{AllocError, Global};
 
 /// The profile, the names under which blocks were given, and the rounds that are closed.

@@ -7,20 +7,19 @@ use Rattle.std.proofs.lemmas.Bool.{and_parts, and_from, or_parts, eqb-false, leb
 use Rattle.std.proofs.lemmas.List.Sums.{sum_by-append}
 use Rattle.std.proofs.lemmas.List.Folds.{list_all-append}
 use Rattle.std.proofs.lemmas.Slice.Eq.{bytes_eq-Decides}
-use Rattle.mz_trace.specs.declared.command.Command.TheVariants.{Give}
+use Rattle.mz_lines.specs.Whys.{is_callers}
+use Rattle.mz_lines.specs.Laws.{LineLaws, IsLine}
+use Rattle.mz_lines.specs.declared.command.Command.TheVariants.{Give}
 use Rattle.mz_trace.specs.declared.round.Round.{Round}
-use Rattle.mz_trace.specs.declared.round.RoundLine.{RoundLine}
-use Rattle.mz_trace.specs.declared.command.Command.{Command}
-use Rattle.mz_trace.specs.declared.line.Line.{Line}
-use Rattle.mz_trace.specs.Lines.{line_fits, gives}
+use Rattle.mz_lines.specs.declared.round_line.RoundLine.{RoundLine}
+use Rattle.mz_lines.specs.declared.command.Command.{Command}
+use Rattle.mz_lines.specs.declared.line.Line.{Line}
+use Rattle.mz_lines.specs.Lines.{line_fits, gives}
 use Rattle.mz_trace.specs.Rounds.{IsRound, AreRounds, none, more}
-use Rattle.mz_trace.specs.Faults.{is_callers}
 use Rattle.mz_trace.specs.Faults.{begins_round, has_callers_line, given_in, is_out_of_place, is_given_before}
 use Rattle.mz_trace.specs.Reading.{rounds_of, with_line, with_start, with_call, blank_round}
 use Rattle.mz_trace.specs.Readers.{is_round, is_call}
-use Rattle.mz_trace.specs.declared.line.Line.TheVariants.{Round as round, Start as start, Call as call}
-use Rattle.mz_words.specs.Laws.{WordLaws}
-use Rattle.mz_trace.proofs.LinesAreSentences.{IsLine}
+use Rattle.mz_lines.specs.declared.line.Line.TheVariants.{Round as round, Start as start, Call as call}
 use Rattle.mz_trace.proofs.LineIsKept.{begins_round-line, is_callers-line, given_in-line, given_word_of, given_more, count_more}
 use Rattle.mz_trace.proofs.ReaderGrows.{on_last-push}
 use Rattle.mz_trace.proofs.RoundsGrow.{round_begins, round_starts, round_calls}
@@ -52,7 +51,7 @@ record IsNext (callers : ℕ) (before : Before) (words : List (List ℕ)) (x : L
   calls : is_callers words ≡ is_call x
   place : is_out_of_place before words ≡ false
 
-next : WordLaws → (callers : ℕ) (before : Before) (words : List (List ℕ)) (x : Line) → callers < 2 ^ 64 → IsLine callers words x → is_out_of_place before words ≡ false → IsNext callers before words x
+next : LineLaws → (callers : ℕ) (before : Before) (words : List (List ℕ)) (x : Line) → callers < 2 ^ 64 → IsLine callers words x → is_out_of_place before words ≡ false → IsNext callers before words x
 next k callers before words x few l place = record {
   line = l;
   begins = rw (← l.words_are) (begins_round-line x);
@@ -137,7 +136,7 @@ step_call callers before words xs c k n (opened o) =
       count = o.count ∙ sym (count_other callers before words (call c k) refl n);
     })
 
-pub step : WordLaws → (callers : ℕ) (before : Before) (words : List (List ℕ)) (xs : List Line) (x : Line) → callers < 2 ^ 64 → IsLine callers words x → is_out_of_place before words ≡ false → Stands callers before xs → Stands callers (words ∷ before) (xs ++ x ∷ [])
+pub step : LineLaws → (callers : ℕ) (before : Before) (words : List (List ℕ)) (xs : List Line) (x : Line) → callers < 2 ^ 64 → IsLine callers words x → is_out_of_place before words ≡ false → Stands callers before xs → Stands callers (words ∷ before) (xs ++ x ∷ [])
 step k callers before words xs round few l place s = step_round callers before words xs (next k callers before words round few l place) s
 step k callers before words xs (start y) few l place s = step_start callers before words xs y (next k callers before words (start y) few l place) s
 step k callers before words xs (call c d) few l place s = step_call callers before words xs c d (next k callers before words (call c d) few l place) s
@@ -195,7 +194,7 @@ pub record IsSound (callers : ℕ) (before : Before) (xs : List Line) : Type 0 w
 pub sound_start : (callers : ℕ) → IsSound callers [] []
 sound_start callers = record { stands = fresh refl refl refl; few = omega arith; each = refl; once = λ base. refl }
 
-few_step : WordLaws → (callers : ℕ) (before : Before) (words : List (List ℕ)) (x : Line) → callers < 2 ^ 64 → IsLine callers words x → is_out_of_place before words ≡ false → count_by begins_round before ≤ 4096 → count_by begins_round (words ∷ before) ≤ 4096
+few_step : LineLaws → (callers : ℕ) (before : Before) (words : List (List ℕ)) (x : Line) → callers < 2 ^ 64 → IsLine callers words x → is_out_of_place before words ≡ false → count_by begins_round before ≤ 4096 → count_by begins_round (words ∷ before) ≤ 4096
 few_step k callers before words round few l place le =
     let n = next k callers before words round few l place in
     let c = count_round callers before words n in
@@ -205,7 +204,7 @@ few_step k callers before words (start s) few l place le = let c = count_other c
 few_step k callers before words (call a d) few l place le = let c = count_other callers before words (call a d) refl (next k callers before words (call a d) few l place) in omega (arith, c, le)
 
 pub sound_step :
-    WordLaws → (callers : ℕ) (before : Before) (words : List (List ℕ)) (xs : List Line) (x : Line) → callers < 2 ^ 64 → IsLine callers words x
+    LineLaws → (callers : ℕ) (before : Before) (words : List (List ℕ)) (xs : List Line) (x : Line) → callers < 2 ^ 64 → IsLine callers words x
     → is_out_of_place before words ≡ false → is_given_before before words ≡ false → IsSound callers before xs → IsSound callers (words ∷ before) (xs ++ x ∷ [])
 sound_step k callers before words xs x few l place given s = record {
   stands = step k callers before words xs x few l place s.stands;

@@ -6,25 +6,24 @@ use Rattle.std.specs.Str.{bytes_eq}
 use Rattle.std.proofs.lemmas.Bool.{cases_Bool, and_parts, and_from}
 use Rattle.std.proofs.lemmas.List.{append-nil}
 use Rattle.std.proofs.lemmas.Slice.Eq.{bytes_eq-Decides}
+use Rattle.mz_lines.specs.Whys.{why_number, word_why}
+use Rattle.mz_lines.specs.Laws.{LineLaws, IsLine}
 use Rattle.mz_base.specs.declared.profile.Profile.{Profile}
 use Rattle.mz_words.specs.Numbers.{◌>>=◌}
 use Rattle.mz_words.specs.Lines.{Cut, cuts, words_of, is_plain, line_text}
-use Rattle.mz_words.specs.Laws.{WordLaws}
-use Rattle.mz_trace.specs.declared.fault.Why.{Why}
-use Rattle.mz_trace.specs.declared.fault.Why.TheVariants.{NotPlain, NotTrace, NotSpace, OutOfPlace, GivenBefore}
+use Rattle.mz_lines.specs.declared.why.Why.{Why}
+use Rattle.mz_lines.specs.declared.why.Why.TheVariants.{NotPlain, NotTrace, NotSpace, OutOfPlace, GivenBefore}
 use Rattle.mz_trace.specs.declared.fault.TraceFault.{TraceFault}
 use Rattle.mz_trace.specs.declared.fault.TraceFault.TheVariants.{Bad, NoMemory}
-use Rattle.mz_trace.specs.declared.line.Line.{Line}
+use Rattle.mz_lines.specs.declared.line.Line.{Line}
 use Rattle.mz_trace.specs.declared.trace.Trace.{Trace}
-use Rattle.mz_trace.specs.Lines.{line_words}
-use Rattle.mz_trace.specs.Spaces.{space_words, profile_in}
+use Rattle.mz_lines.specs.Lines.{line_words}
+use Rattle.mz_lines.specs.Spaces.{space_words, profile_in}
 use Rattle.mz_trace.specs.Texts.{lines_text, first_words, IsTrace, IsTraceText, HasTrace}
-use Rattle.mz_trace.specs.Faults.{Fails, TellsBadLine, why_number, is_out_of_place, is_given_before, why_of, first, second, later, bad_later, bad_line, BadLine, bad_line_of}
+use Rattle.mz_trace.specs.Faults.{Fails, TellsBadLine, is_out_of_place, is_given_before, why_of, first, second, later, bad_later, bad_line, BadLine, bad_line_of}
 use Rattle.mz_trace.specs.Reading.{rounds_of, behind, trace_in}
-use Rattle.mz_trace.specs.Readers.{ComesTo, HasNumbers, numbers_of, word_why, place_why, words_why}
+use Rattle.mz_trace.specs.Readers.{ComesTo, HasNumbers, numbers_of, place_why, words_why}
 use Rattle.mz_trace.proofs.Options.{bind_parts, some_same}
-use Rattle.mz_trace.proofs.LinesAreSentences.{IsLine, line_spelled, no_why_read}
-use Rattle.mz_trace.proofs.SpaceIsRead.{profile_spelled}
 use Rattle.mz_trace.proofs.LaterLines.{why_of-plain, why_of-not_plain}
 use Rattle.mz_trace.proofs.CutsAreText.{with_feed, uncut, all_ended, uncut-cuts, line_text-words_of}
 use Rattle.mz_trace.proofs.GoodLinesMakeRounds.{Before, stood, IsSound, sound_start, sound_step, are_rounds, count_rounds}
@@ -46,12 +45,12 @@ neither : (a b : Option Why) → option_map_or (λ y. Some y) a b ≡ None → (
 neither None b e = (refl, e)
 neither (Some y) b e = absurd cc
 
-good_words : WordLaws → (callers : ℕ) (before : Before) (words : List (List ℕ)) → words_why callers before words ≡ None → IsGood callers before words
+good_words : LineLaws → (callers : ℕ) (before : Before) (words : List (List ℕ)) → words_why callers before words ≡ None → IsGood callers before words
 good_words k callers before words e =
     let both = neither (word_why callers words) (place_why before words) e in
-    let read = no_why_read k callers words both.0 in
+    let read = k.lines.read callers words both.0 in
     let place = in_place (is_out_of_place before words) (is_given_before before words) both.1 in
-    record { line = read.0; is = line_spelled k callers words read.0 read.1; place = place.0; given = place.1 }
+    record { line = read.0; is = k.lines.spelled callers words read.0 read.1; place = place.0; given = place.1 }
 
 plain_of : (callers : ℕ) (before : Before) (l : Cut) → why_of (later callers before) l ≡ None → is_plain l ≡ true
 plain_of callers before l e =
@@ -76,7 +75,7 @@ good_later : (callers : ℕ) (before : Before) (n : ℕ) (l : Cut) (ls : List Cu
 good_later callers before n l ls None e h = (e, h)
 good_later callers before n l ls (Some y) e h = absurd cc
 
-read_later : WordLaws → (callers : ℕ) (ls : List Cut) (before : Before) (n : ℕ) (xs : List Line) → callers < 2 ^ 64 → bad_later callers before n ls ≡ None → IsSound callers before xs → IsReadFrom callers (behind before ls) xs ls
+read_later : LineLaws → (callers : ℕ) (ls : List Cut) (before : Before) (n : ℕ) (xs : List Line) → callers < 2 ^ 64 → bad_later callers before n ls ≡ None → IsSound callers before xs → IsReadFrom callers (behind before ls) xs ls
 read_later k callers [] before n xs few e s = record { lines = []; sound = rw (append-nil xs) s; text = refl; ended = refl }
 read_later k callers (l ∷ ls) before n xs few e s =
     let both = good_later callers before n l ls (why_of (later callers before) l) refl e in
@@ -118,12 +117,12 @@ at_most_once true n e = omega arith
 at_most_once false n e = omega arith
 
 found_made :
-    WordLaws → (bytes : List ℕ) (p : Profile) (l m : Cut) (ls : List Cut) → l ∷ m ∷ ls ≡ cuts bytes → why_of first l ≡ None → why_of second m ≡ None
+    LineLaws → (bytes : List ℕ) (p : Profile) (l m : Cut) (ls : List Cut) → l ∷ m ∷ ls ≡ cuts bytes → why_of first l ≡ None → why_of second m ≡ None
     → profile_in (words_of m.text) ≡ Some p → bad_later p.callers [] 3 ls ≡ None → IsTraceText bytes (trace_made p ls)
 found_made k bytes p l m ls cut e1 e2 space e3 =
     let one = first_is l e1 in
     let two = second_is m e2 in
-    let space_line = profile_spelled k (words_of m.text) p space in
+    let space_line = k.profiles.spelled (words_of m.text) p space in
     let limits = space_line.1 in
     let few : p.callers < 2 ^ 64 = let most = limits.callers.1 in omega (arith, most) in
     let later_lines = read_later k p.callers ls [] 3 [] few e3 (sound_start p.callers) in
@@ -140,7 +139,7 @@ found_made k bytes p l m ls cut e1 e2 space e3 =
       few = rw (count_rounds p.callers (behind [] ls) later_lines.lines s.stands) s.few;
     }
 
-found_cut : WordLaws → (bytes : List ℕ) (ls : List Cut) (t : Trace) → ls ≡ cuts bytes → bad_line ls ≡ None → trace_in ls ≡ Some t → IsTraceText bytes t
+found_cut : LineLaws → (bytes : List ℕ) (ls : List Cut) (t : Trace) → ls ≡ cuts bytes → bad_line ls ≡ None → trace_in ls ≡ Some t → IsTraceText bytes t
 found_cut k bytes [] t cut e h = absurd cc
 found_cut k bytes (l ∷ []) t cut e h = absurd cc
 found_cut k bytes (l ∷ m ∷ ls) t cut e h =
@@ -152,10 +151,10 @@ found_cut k bytes (l ∷ m ∷ ls) t cut e h =
     subst (λ (x : Trace). IsTraceText bytes x) same (found_made k bytes p.0 l m ls cut one.0 two.0 p.1 three)
 
 -- the law
-found : WordLaws → (bytes : List ℕ) (t : Trace) → bad_line_of bytes ≡ None → trace_in (cuts bytes) ≡ Some t → IsTraceText bytes t
+found : LineLaws → (bytes : List ℕ) (t : Trace) → bad_line_of bytes ≡ None → trace_in (cuts bytes) ≡ Some t → IsTraceText bytes t
 found k bytes t e h = found_cut k bytes (cuts bytes) t refl e h
 
-pub is_found : WordLaws → (bytes : List ℕ) (r : Result Trace TraceFault) → ComesTo (bad_line_of bytes) (trace_in (cuts bytes)) r → IfOk r (λ t. IsTraceText bytes t)
+pub is_found : LineLaws → (bytes : List ℕ) (r : Result Trace TraceFault) → ComesTo (bad_line_of bytes) (trace_in (cuts bytes)) r → IfOk r (λ t. IsTraceText bytes t)
 is_found k bytes (Ok t) h = found k bytes t h.0 h.1
 is_found k bytes (Err e) h = tt
 
@@ -163,7 +162,7 @@ pub is_good : (bytes : List ℕ) (r : Result Trace TraceFault) → ComesTo (bad_
 is_good bytes (Ok t) h = h.0
 is_good bytes (Err e) h = tt
 
-pub is_trace : WordLaws → (bytes : List ℕ) (r : Result Trace TraceFault) → ComesTo (bad_line_of bytes) (trace_in (cuts bytes)) r → IfOk r IsTrace
+pub is_trace : LineLaws → (bytes : List ℕ) (r : Result Trace TraceFault) → ComesTo (bad_line_of bytes) (trace_in (cuts bytes)) r → IfOk r IsTrace
 is_trace k bytes (Ok t) h = text_is_trace bytes t (found k bytes t h.0 h.1)
 is_trace k bytes (Err e) h = tt
 
@@ -192,7 +191,7 @@ second_profile l e = go (profile_in (words_of l.text)) refl where
   go (Some p) eo = (p, eo)
   go None eo = let bad : Some NotSpace ≡ None = rw (second_is l e, eo) at e in absurd cc
 
-has_cut : WordLaws → (bytes : List ℕ) (ls : List Cut) → ls ≡ cuts bytes → bad_line ls ≡ None → HasTrace bytes
+has_cut : LineLaws → (bytes : List ℕ) (ls : List Cut) → ls ≡ cuts bytes → bad_line ls ≡ None → HasTrace bytes
 has_cut k bytes [] cut e = absurd cc
 has_cut k bytes (l ∷ []) cut e = let one = no_bad (why_of first l) 1 _ e in let bad = one.1 in absurd cc
 has_cut k bytes (l ∷ m ∷ ls) cut e =
@@ -201,5 +200,5 @@ has_cut k bytes (l ∷ m ∷ ls) cut e =
     let p = second_profile m two.0 in
     (trace_made p.0 ls, found_made k bytes p.0 l m ls cut one.0 two.0 p.1 (rw p.1 at two.1))
 
-pub has_trace : WordLaws → (bytes : List ℕ) → bad_line_of bytes ≡ None → HasTrace bytes
+pub has_trace : LineLaws → (bytes : List ℕ) → bad_line_of bytes ≡ None → HasTrace bytes
 has_trace k bytes e = has_cut k bytes (cuts bytes) refl e

@@ -2,11 +2,12 @@
 use Rattle.std.proofs.Common.{◌≡◌, ℕ, Bool, true, false, List, [], ◌∷◌, ◌++◌, cond, refl, sym, ◌∙◌, Option, Some, None}
 use Rattle.std.specs.Prelude.{find, Result, Ok, Err, IfOk}
 use Rattle.std.specs.Option.{option_map_or}
+use Rattle.mz_lines.specs.Whys.{word_whys}
 use Rattle.mz_words.specs.Lines.{Cut, words_of, is_plain}
 use Rattle.mz_trace.specs.declared.reader.Reader.{Reader}
-use Rattle.mz_trace.specs.declared.fault.Why.{Why}
-use Rattle.mz_trace.specs.declared.fault.Why.TheVariants.{NotPlain, OutOfPlace, GivenBefore}
-use Rattle.mz_trace.specs.Faults.{holds, why_of, word_whys, later, bad_later}
+use Rattle.mz_lines.specs.declared.why.Why.{Why}
+use Rattle.mz_lines.specs.declared.why.Why.TheVariants.{NotPlain, OutOfPlace, GivenBefore}
+use Rattle.mz_trace.specs.Faults.{holds, why_of, later, bad_later}
 use Rattle.mz_trace.specs.Reading.{behind, rounds_of}
 use Rattle.mz_trace.specs.Readers.{HasRead, ReadsLine, ReadsCut, rounds_in, words_why}
 

@@ -1,10 +1,3 @@
--- Commands, lines and profiles, and their words.
-pub mod Options
-pub mod CommandsAreSentences
-pub mod StartsAreSentences
-pub mod LinesAreSentences
-pub mod LimitLemmas
-pub mod SpaceIsRead
 -- Rounds, and what the reader keeps of lines.
 pub mod RoundsGrow
 pub mod ReaderGrows

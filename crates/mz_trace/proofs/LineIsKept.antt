@@ -8,21 +8,21 @@ use Rattle.std.proofs.lemmas.List.Sums.{sum_by-cons}
 use Rattle.std.proofs.lemmas.Bool.{and_parts, leb-false, ltb-true}
 use Rattle.std.proofs.lemmas.Bool.Decides.{same_from_decides, Decides-like}
 use Rattle.std.proofs.lemmas.Slice.Eq.{bytes_eq-Decides}
+use Rattle.mz_lines.specs.Whys.{is_callers, word_why}
+use Rattle.mz_lines.specs.LineReading.{line_in}
+use Rattle.mz_lines.specs.Laws.{LineLaws, IsLine}
 use Rattle.mz_words.specs.Kinds.{word_text}
-use Rattle.mz_words.specs.Laws.{WordLaws}
-use Rattle.mz_trace.specs.declared.command.Command.TheVariants.{Give}
-use Rattle.mz_trace.specs.declared.round.RoundLine.TheVariants as at
-use Rattle.mz_trace.specs.declared.line.Line.{Line}
-use Rattle.mz_trace.specs.declared.line.Line.TheVariants.{Round as round, Start as start, Call as call}
+use Rattle.mz_lines.specs.declared.command.Command.TheVariants.{Give}
+use Rattle.mz_lines.specs.declared.round_line.RoundLine.TheVariants as at
+use Rattle.mz_lines.specs.declared.line.Line.{Line}
+use Rattle.mz_lines.specs.declared.line.Line.TheVariants.{Round as round, Start as start, Call as call}
 use Rattle.mz_trace.specs.declared.reader.Reader.{Reader}
-use Rattle.mz_trace.specs.declared.fault.Why.{Why}
-use Rattle.mz_trace.specs.declared.fault.Why.TheVariants.{OutOfPlace, GivenBefore}
-use Rattle.mz_trace.specs.Lines.{line_words, line_fits, gives}
-use Rattle.mz_trace.specs.Faults.{is_callers, begins_round, given_in, is_out_of_place, is_given_before}
+use Rattle.mz_lines.specs.declared.why.Why.{Why}
+use Rattle.mz_lines.specs.declared.why.Why.TheVariants.{OutOfPlace, GivenBefore}
+use Rattle.mz_lines.specs.Lines.{line_words, line_fits, gives}
+use Rattle.mz_trace.specs.Faults.{begins_round, given_in, is_out_of_place, is_given_before}
 use Rattle.mz_trace.specs.Given.{has_name}
-use Rattle.mz_trace.specs.Reading.{line_in}
-use Rattle.mz_trace.specs.Readers.{HasRead, Adds, Takes, CanAdd, ReadsLine, is_round, is_call, is_misplaced, is_given, reader_why, word_why, place_why, words_why}
-use Rattle.mz_trace.proofs.LinesAreSentences.{IsLine, digit-decimal, line_spelled, read_no_why, no_why_read}
+use Rattle.mz_trace.specs.Readers.{HasRead, Adds, Takes, CanAdd, ReadsLine, is_round, is_call, is_misplaced, is_given, reader_why, place_why, words_why}
 
 -- what the words of a line say
 pub begins_round-line : (x : Line) → begins_round (line_words x) ≡ is_round x
@@ -31,11 +31,11 @@ begins_round-line (start (at.Zone z)) = refl
 begins_round-line (start _) = refl
 begins_round-line (call c k) = refl
 
-pub is_callers-line : WordLaws → (callers : ℕ) (x : Line) → callers < 2 ^ 64 → line_fits callers x ≡ true → is_callers (line_words x) ≡ is_call x
+pub is_callers-line : LineLaws → (callers : ℕ) (x : Line) → callers < 2 ^ 64 → line_fits callers x ≡ true → is_callers (line_words x) ≡ is_call x
 is_callers-line k callers round few e = refl
 is_callers-line k callers (start (at.Zone z)) few e = refl
 is_callers-line k callers (start _) few e = refl
-is_callers-line k callers (call c command) few e = let below : c < callers = ltb-true _ _ (and_parts _ _ e).0 in digit-decimal k c (omega arith)
+is_callers-line k callers (call c command) few e = let below : c < callers = ltb-true _ _ (and_parts _ _ e).0 in k.lines.digit c (omega arith)
 
 -- the word under which a line gives a block
 abbrev pub given_word_of : Line → Option (List ℕ)
@@ -73,7 +73,7 @@ record Said (callers : ℕ) (words : List (List ℕ)) (x : Line) : Type 0 where
   calls : is_callers words ≡ is_call x
   given : given_in words ≡ given_word_of x
 
-said : WordLaws → (callers : ℕ) (words : List (List ℕ)) (x : Line) → callers < 2 ^ 64 → IsLine callers words x → Said callers words x
+said : LineLaws → (callers : ℕ) (words : List (List ℕ)) (x : Line) → callers < 2 ^ 64 → IsLine callers words x → Said callers words x
 said k callers words x few l = record {
   begins = rw (← l.words_are) (begins_round-line x);
   calls = rw (← l.words_are) (is_callers-line k callers x few l.fits);
@@ -81,7 +81,7 @@ said k callers words x few l = record {
 }
 
 pub has_read :
-    WordLaws → (callers : ℕ) (before : List (List (List ℕ))) (words : List (List ℕ)) (x : Line) (old new : Reader) → callers < 2 ^ 64
+    LineLaws → (callers : ℕ) (before : List (List (List ℕ))) (words : List (List ℕ)) (x : Line) (old new : Reader) → callers < 2 ^ 64
     → HasRead callers before old → IsLine callers words x → Adds callers x old new → HasRead callers (words ∷ before) new
 has_read k callers before words x old new few h l a =
     let s = said k callers words x few l in
@@ -111,7 +111,7 @@ given_as callers before (start y) r h = refl
 given_as callers before (call c (Give a b g)) r h = h.given g.base
 given_as callers before (call c _) r h = refl
 
-place_found : WordLaws → (callers : ℕ) (before : List (List (List ℕ))) (words : List (List ℕ)) (x : Line) (r : Reader) → callers < 2 ^ 64 → HasRead callers before r → IsLine callers words x
+place_found : LineLaws → (callers : ℕ) (before : List (List (List ℕ))) (words : List (List ℕ)) (x : Line) (r : Reader) → callers < 2 ^ 64 → HasRead callers before r → IsLine callers words x
     → reader_why r x ≡ place_why before words
 place_found k callers before words x r few h l =
     let s = said k callers words x few l in
@@ -120,27 +120,27 @@ place_found k callers before words x r few h l =
     ∙ ap (λ (b : Bool). cond (is_out_of_place before words) (Some OutOfPlace) (cond b (Some GivenBefore) None)) given
 
 -- so that reading comes to the first why, or to one more line
-pub reads_bad : WordLaws → (callers : ℕ) (before : List (List (List ℕ))) (words : List (List ℕ)) (r : Reader) (why : Option Why) → None ≡ line_in callers words → why ≡ word_why callers words
+pub reads_bad : LineLaws → (callers : ℕ) (before : List (List (List ℕ))) (words : List (List ℕ)) (r : Reader) (why : Option Why) → None ≡ line_in callers words → why ≡ word_why callers words
     → ReadsLine callers before words r why
 reads_bad k callers before words r why unread is =
-    let some : (word_why callers words ≡ None) → ⊥ = λ none. let read = no_why_read k callers words none in let bad : None ≡ Some read.0 = unread ∙ read.1 in absurd cc in
+    let some : (word_why callers words ≡ None) → ⊥ = λ none. let read = k.lines.read callers words none in let bad : None ≡ Some read.0 = unread ∙ read.1 in absurd cc in
     record { first = is ∙ chosen (word_why callers words) (place_why before words) some; read = λ none. absurd (some (sym is ∙ none)) }
   where
     chosen : (o p : Option Why) → (o ≡ None → ⊥) → o ≡ option_map_or (λ y. Some y) o p
     chosen None p h = absurd (h refl)
     chosen (Some y) p h = refl
 
-first_place : WordLaws → (callers : ℕ) (before : List (List (List ℕ))) (words : List (List ℕ)) (x : Line) (r : Reader) (why : Option Why) → callers < 2 ^ 64 → HasRead callers before r
+first_place : LineLaws → (callers : ℕ) (before : List (List (List ℕ))) (words : List (List ℕ)) (x : Line) (r : Reader) (why : Option Why) → callers < 2 ^ 64 → HasRead callers before r
     → Some x ≡ line_in callers words → why ≡ reader_why r x → why ≡ words_why callers before words
 first_place k callers before words x r why few h read is =
-    is ∙ place_found k callers before words x r few h (line_spelled k callers words x (sym read))
-    ∙ ap (λ (o : Option Why). option_map_or (λ y. Some y) o (place_why before words)) (sym (read_no_why k callers words x (sym read)))
+    is ∙ place_found k callers before words x r few h (k.lines.spelled callers words x (sym read))
+    ∙ ap (λ (o : Option Why). option_map_or (λ y. Some y) o (place_why before words)) (sym (k.lines.good callers words x (sym read)))
 
-pub reads_taken : WordLaws → (callers : ℕ) (before : List (List (List ℕ))) (words : List (List ℕ)) (x : Line) (r s : Reader) (why : Option Why) → callers < 2 ^ 64 → HasRead callers before r
+pub reads_taken : LineLaws → (callers : ℕ) (before : List (List (List ℕ))) (words : List (List ℕ)) (x : Line) (r s : Reader) (why : Option Why) → callers < 2 ^ 64 → HasRead callers before r
     → Some x ≡ line_in callers words → Takes callers x r s why → ReadsLine callers before words s why
 reads_taken k callers before words x r s why few h read t = record {
   first = first_place k callers before words x r why few h read t.first;
-  read = λ none. has_read k callers before words x r s few h (line_spelled k callers words x (sym read)) (t.added none);
+  read = λ none. has_read k callers before words x r s few h (k.lines.spelled callers words x (sym read)) (t.added none);
 }
 
 -- there is room for it
@@ -148,11 +148,11 @@ not_misplaced : (a b : Bool) → None ≡ cond a (Some OutOfPlace) (cond b (Some
 not_misplaced true b e = absurd cc
 not_misplaced false b e = refl
 
-pub can_add : WordLaws → (callers : ℕ) (before : List (List (List ℕ))) (words : List (List ℕ)) (x : Line) (r : Reader) → HasRead callers before r → Some x ≡ line_in callers words → None ≡ reader_why r x
+pub can_add : LineLaws → (callers : ℕ) (before : List (List (List ℕ))) (words : List (List ℕ)) (x : Line) (r : Reader) → HasRead callers before r → Some x ≡ line_in callers words → None ≡ reader_why r x
     → CanAdd r x
 can_add k callers before words round r h read is = leb-false 4096 _ (not_misplaced (is_misplaced r round) (is_given r round) is)
 can_add k callers before words (start y) r h read is = tt
 can_add k callers before words (call c command) r h read is =
-    let l = line_spelled k callers words (call c command) (sym read) in
+    let l = k.lines.spelled callers words (call c command) (sym read) in
     let below : c < callers = ltb-true _ _ (and_parts _ _ l.fits).0 in
     rw h.lists below

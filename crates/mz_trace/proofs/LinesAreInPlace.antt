@@ -7,18 +7,19 @@ use Rattle.std.proofs.lemmas.Bool.{and_parts, lt-leb, ltb-true, ne_eqb}
 use Rattle.std.proofs.lemmas.List.{append-nil}
 use Rattle.std.proofs.lemmas.List.Folds.{list_all-append}
 use Rattle.std.proofs.lemmas.Slice.Eq.{bytes_eq-Decides}
+use Rattle.mz_lines.specs.LineReading.{line_in}
+use Rattle.mz_lines.specs.Laws.{LineLaws}
 use Rattle.mz_trace.specs.declared.round.Round.{Round}
-use Rattle.mz_trace.specs.declared.round.RoundLine.{RoundLine}
-use Rattle.mz_trace.specs.declared.command.Command.{Command}
-use Rattle.mz_trace.specs.declared.command.Command.TheVariants.{Give}
-use Rattle.mz_trace.specs.declared.line.Line.{Line}
-use Rattle.mz_trace.specs.Lines.{line_words, line_fits, gives}
+use Rattle.mz_lines.specs.declared.round_line.RoundLine.{RoundLine}
+use Rattle.mz_lines.specs.declared.command.Command.{Command}
+use Rattle.mz_lines.specs.declared.command.Command.TheVariants.{Give}
+use Rattle.mz_lines.specs.declared.line.Line.{Line}
+use Rattle.mz_lines.specs.Lines.{line_words, line_fits, gives}
 use Rattle.mz_trace.specs.Rounds.{Call, call_line, lists_from, IsRound, AreRounds, none, more}
 use Rattle.mz_trace.specs.Faults.{begins_round, has_callers_line, given_in, is_out_of_place, is_given_before}
-use Rattle.mz_trace.specs.Reading.{rounds_of, line_in, with_line, with_start, with_call, blank_round}
+use Rattle.mz_trace.specs.Reading.{rounds_of, with_line, with_start, with_call, blank_round}
 use Rattle.mz_trace.specs.Readers.{is_round}
-use Rattle.mz_trace.specs.declared.line.Line.TheVariants.{Round as round, Start as start, Call as call}
-use Rattle.mz_words.specs.Laws.{WordLaws}
+use Rattle.mz_lines.specs.declared.line.Line.TheVariants.{Round as round, Start as start, Call as call}
 use Rattle.mz_trace.proofs.LineIsKept.{begins_round-line, is_callers-line, given_in-line, given_word_of, given_more, count_more}
 use Rattle.mz_trace.proofs.ReaderGrows.{on_last-push}
 use Rattle.std.specs.Option.{option_map_or}
@@ -48,7 +49,7 @@ count_of : (x : Line) (before : Before) → count_by begins_round (line_words x 
 count_of x before = count_more begins_round (line_words x) before ∙ rw (begins_round-line x) refl
 
 -- lines at the start of a round
-starts_in_place : WordLaws → (before : Before) (ss : List RoundLine) (callers : ℕ) → callers < 2 ^ 64 → list_all (line_fits callers) (map start ss) ≡ true → 0 < count_by begins_round before → has_callers_line before ≡ false
+starts_in_place : LineLaws → (before : Before) (ss : List RoundLine) (callers : ℕ) → callers < 2 ^ 64 → list_all (line_fits callers) (map start ss) ≡ true → 0 < count_by begins_round before → has_callers_line before ≡ false
     → InPlace before (map start ss) × (count_by begins_round (backward before (map start ss)) ≡ count_by begins_round before)
 starts_in_place k before [] callers few e c quiet = (tt, refl)
 starts_in_place k before (s ∷ ss) callers few e c quiet =
@@ -62,7 +63,7 @@ starts_in_place k before (s ∷ ss) callers few e c quiet =
     ((rw (begins, calls, some) quiet, others.0), others.1 ∙ same)
 
 -- commands
-calls_in_place : WordLaws → (before : Before) (cs : List Call) (callers : ℕ) → callers < 2 ^ 64 → list_all (line_fits callers) (map call_line cs) ≡ true → 0 < count_by begins_round before
+calls_in_place : LineLaws → (before : Before) (cs : List Call) (callers : ℕ) → callers < 2 ^ 64 → list_all (line_fits callers) (map call_line cs) ≡ true → 0 < count_by begins_round before
     → InPlace before (map call_line cs) × (count_by begins_round (backward before (map call_line cs)) ≡ count_by begins_round before)
 calls_in_place k before [] callers few e c = (tt, refl)
 calls_in_place k before (d ∷ cs) callers few e c =
@@ -76,7 +77,7 @@ calls_in_place k before (d ∷ cs) callers few e c =
 
 -- a round
 round_in_place :
-    WordLaws → (before : Before) (callers : ℕ) (ls : List Line) (r : Round) → callers < 2 ^ 64 → list_all (line_fits callers) ls ≡ true → IsRound callers ls r → count_by begins_round before < 4096
+    LineLaws → (before : Before) (callers : ℕ) (ls : List Line) (r : Round) → callers < 2 ^ 64 → list_all (line_fits callers) ls ≡ true → IsRound callers ls r → count_by begins_round before < 4096
     → InPlace before ls × (count_by begins_round (backward before ls) ≡ count_by begins_round before + 1)
 round_in_place w before callers ls r few e h lt =
     let fit : list_all (line_fits callers) (map start r.lines ++ map call_line h.calls) ≡ true = rw h.parts at e in
@@ -89,7 +90,7 @@ round_in_place w before callers ls r few e h lt =
     rw h.parts ((lt-leb 4096 (count_by begins_round before) lt, whole), ap (count_by begins_round) (backward-append first (map start r.lines) (map call_line h.calls)) ∙ k.1 ∙ s.1 ∙ one)
 
 pub all_in_place :
-    WordLaws → (callers : ℕ) (ls : List Line) (rs : List Round) → callers < 2 ^ 64 → list_all (line_fits callers) ls ≡ true → AreRounds callers ls rs → length rs ≤ 4096
+    LineLaws → (callers : ℕ) (ls : List Line) (rs : List Round) → callers < 2 ^ 64 → list_all (line_fits callers) ls ≡ true → AreRounds callers ls rs → length rs ≤ 4096
     → InPlace [] ls × (count_by begins_round (backward [] ls) ≡ length rs)
 all_in_place k callers ls rs few e none le = (tt, refl)
 all_in_place k callers ls rs few e (more front back before r are is) le =

@@ -5,14 +5,14 @@ use Rattle.std.specs.List.{list_all}
 use Rattle.std.proofs.lemmas.List.{append-nil, map-append}
 use Rattle.std.proofs.lemmas.List.Folds.{list_all-append}
 use Rattle.std.proofs.lemmas.Bool.{and_parts, ne_eqb, eq-eqb, ltb-true}
-use Rattle.mz_trace.specs.declared.command.Command.{Command}
+use Rattle.mz_lines.specs.declared.command.Command.{Command}
 use Rattle.mz_trace.specs.declared.round.Round.{Round}
 use Rattle.mz_trace.specs.declared.trace.Trace.{Trace}
-use Rattle.mz_trace.specs.declared.line.Line.{Line}
-use Rattle.mz_trace.specs.Lines.{line_fits, gives}
+use Rattle.mz_lines.specs.declared.line.Line.{Line}
+use Rattle.mz_lines.specs.Lines.{line_fits, gives}
 use Rattle.mz_trace.specs.Rounds.{Call, call_line, commands_by, lists_from, IsRound, AreRounds, none, more, calls_from, round_lines, lines_of_rounds, HaveLists}
 use Rattle.mz_trace.specs.Texts.{IsTraceText, IsTrace, normal_text}
-use Rattle.mz_trace.specs.declared.line.Line.TheVariants.{Round as round, Start as start, Call as call}
+use Rattle.mz_lines.specs.declared.line.Line.TheVariants.{Round as round, Start as start, Call as call}
 use Rattle.mz_trace.proofs.RoundsGrow.{length-lists_from}
 use Rattle.mz_trace.proofs.PrintedLines.{lines_of_rounds-push}
 use Rattle.mz_trace.proofs.LineIsKept.{count_more}

@@ -2,14 +2,14 @@
 use Rattle.std.proofs.Common.{◌≡◌, ℕ, suc, ◌+◌, ◌<◌, List, [], ◌∷◌, ◌++◌, map, length, take, get_or, refl, sym, ap, ◌∙◌, append_assoc, arith}
 use Rattle.std.proofs.lemmas.List.{append-nil, take_more, map-append, length-take-le}
 use Rattle.std.proofs.lemmas.List.Concat.{flat_map-append}
-use Rattle.mz_trace.specs.declared.command.Command.{Command}
+use Rattle.mz_lines.specs.declared.command.Command.{Command}
 use Rattle.mz_trace.specs.declared.round.Round.{Round}
-use Rattle.mz_trace.specs.declared.line.Line.{Line}
-use Rattle.mz_trace.specs.Lines.{line_words}
+use Rattle.mz_lines.specs.declared.line.Line.{Line}
+use Rattle.mz_lines.specs.Lines.{line_words}
 use Rattle.mz_trace.specs.Rounds.{Call, call_line, calls_from, round_lines, lines_of_rounds}
 use Rattle.mz_words.specs.Lines.{line_text}
 use Rattle.mz_trace.specs.Texts.{lines_text}
-use Rattle.mz_trace.specs.declared.line.Line.TheVariants.{Call as call}
+use Rattle.mz_lines.specs.declared.line.Line.TheVariants.{Call as call}
 
 pub lines_text-append : (xs ys : List Line) → lines_text (xs ++ ys) ≡ lines_text xs ++ lines_text ys
 lines_text-append xs ys = flat_map-append (λ l. line_text (line_words l)) xs ys

@@ -11,12 +11,12 @@ use Rattle.std.specs.Str.{bytes_eq}
 use Rattle.std.proofs.lemmas.Bool.Decides.{same_from_decides, Decides-like}
 use Rattle.std.proofs.lemmas.Map.Text.{is_eq-slice_cmp}
 use Rattle.std.proofs.lemmas.Slice.Eq.{bytes_eq-Decides}
-use Rattle.mz_trace.specs.declared.command.Command.{Command}
-use Rattle.mz_trace.specs.declared.command.Command.TheVariants.{Give}
-use Rattle.mz_trace.specs.declared.round.RoundLine.{RoundLine}
+use Rattle.mz_lines.specs.declared.command.Command.{Command}
+use Rattle.mz_lines.specs.declared.command.Command.TheVariants.{Give}
+use Rattle.mz_lines.specs.declared.round_line.RoundLine.{RoundLine}
 use Rattle.mz_trace.specs.declared.round.Round.{Round}
 use Rattle.mz_trace.specs.Given.{has_name, with_name}
-use Rattle.mz_trace.specs.Lines.{given_by, command_gives}
+use Rattle.mz_lines.specs.Lines.{given_by, command_gives}
 use Rattle.mz_trace.specs.Reading.{on_last}
 
 pub on_last-push : (f : Round → Round) (rs : List Round) (r : Round) → on_last f (rs ++ r ∷ []) ≡ rs ++ f r ∷ []

@@ -3,13 +3,13 @@ use Rattle.std.proofs.Common.{◌≡◌, ℕ, zero, suc, ◌+◌, ◌<◌, Bool,
 use Rattle.std.specs.Prelude.{replicate, slice_set, slice_index_or}
 use Rattle.std.proofs.lemmas.List.{append-nil, map-append}
 use Rattle.std.proofs.lemmas.Bool.{ne_eqb, eq-eqb}
-use Rattle.mz_trace.specs.declared.command.Command.{Command}
-use Rattle.mz_trace.specs.declared.round.RoundLine.{RoundLine}
+use Rattle.mz_lines.specs.declared.command.Command.{Command}
+use Rattle.mz_lines.specs.declared.round_line.RoundLine.{RoundLine}
 use Rattle.mz_trace.specs.declared.round.Round.{Round}
-use Rattle.mz_trace.specs.declared.line.Line.{Line}
+use Rattle.mz_lines.specs.declared.line.Line.{Line}
 use Rattle.mz_trace.specs.Rounds.{Call, call_line, commands_by, lists_from, IsRound}
 use Rattle.mz_trace.specs.Reading.{with_start, with_call, blank_round}
-use Rattle.mz_trace.specs.declared.line.Line.TheVariants.{Round as round, Start as start, Call as call}
+use Rattle.mz_lines.specs.declared.line.Line.TheVariants.{Round as round, Start as start, Call as call}
 
 -- no commands
 pub lists_from-nil : (first n : ℕ) → lists_from first n [] ≡ replicate n []

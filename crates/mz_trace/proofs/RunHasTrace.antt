@@ -5,21 +5,21 @@ use Rattle.std.specs.List.{list_all, flat_map}
 use Rattle.std.proofs.lemmas.List.{map-append, length-map}
 use Rattle.std.proofs.lemmas.List.Folds.{list_all-append}
 use Rattle.std.proofs.lemmas.Bool.{and_parts, and_from, lt-ltb, eqb-true}
-use Rattle.mz_trace.specs.declared.command.Command.{Command}
+use Rattle.mz_lines.specs.declared.command.Command.{Command}
 use Rattle.mz_trace.specs.declared.run.StartRecord.{StartRecord}
 use Rattle.mz_trace.specs.declared.run.CallRecord.{CallRecord}
 use Rattle.mz_trace.specs.declared.run.RunRound.{RunRound}
 use Rattle.mz_trace.specs.declared.run.Run.{Run}
-use Rattle.mz_trace.specs.declared.line.Line.{Line}
-use Rattle.mz_trace.specs.RoundLines.{start_fits}
-use Rattle.mz_trace.specs.Commands.{command_fits}
-use Rattle.mz_trace.specs.Lines.{line_fits, gives, command_gives}
+use Rattle.mz_lines.specs.declared.line.Line.{Line}
+use Rattle.mz_lines.specs.RoundLines.{start_fits}
+use Rattle.mz_lines.specs.Commands.{command_fits}
+use Rattle.mz_lines.specs.Lines.{line_fits, gives, command_gives}
 use Rattle.mz_trace.specs.Rounds.{call_line, calls_from, round_lines, lines_of_rounds, HaveLists}
 use Rattle.mz_trace.specs.RunForms.{step_fits, start_record_fits, call_record_fits, round_fits, IsRun}
-use Rattle.mz_trace.specs.Answers.{answer_fits}
+use Rattle.mz_lines.specs.Answers.{answer_fits}
 use Rattle.mz_trace.specs.RunTexts.{round_of, trace_of}
 use Rattle.mz_trace.specs.Texts.{IsTrace}
-use Rattle.mz_trace.specs.declared.line.Line.TheVariants.{Round as round, Start as start, Call as call}
+use Rattle.mz_lines.specs.declared.line.Line.TheVariants.{Round as round, Start as start, Call as call}
 use Rattle.mz_trace.proofs.LineIsKept.{count_more}
 use Rattle.mz_trace.proofs.GoodLinesMakeRounds.{count_by-append}
 

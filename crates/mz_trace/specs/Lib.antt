@@ -1,16 +1,9 @@
-pub mod Commands
-pub mod RoundLines
-pub mod Lines
 pub mod Rounds
-pub mod Spaces
 pub mod Texts
 pub mod Reading
 pub mod Faults
 pub mod Given
 pub mod Readers
-pub mod Events
-pub mod Answers
 pub mod TailTexts
 pub mod RunTexts
 pub mod RunForms
-pub mod Laws

@@ -1,6 +1,6 @@
 -- What the reader of traces keeps of the lines that it has read, what one more line adds to that, and what reading comes
 -- to. These go as the code goes; the definitions of traces and of bad lines don't need them.
-use Rattle.std.specs.Prelude.{ℕ, ◌≡◌, ◌+◌, ◌<◌, ◌==◌, ◌||◌, ◌++◌, Bool, true, false, nat_le, List, [], ◌∷◌, Option, None, Some, Result, Ok, Err, find, length, replicate, count_by, if◌then◌else◌}
+use Rattle.std.specs.Prelude.{ℕ, ◌≡◌, ◌+◌, ◌<◌, ◌==◌, ◌||◌, ◌++◌, Bool, true, false, nat_le, List, [], ◌∷◌, Option, None, Some, Result, Ok, Err,  length, replicate, count_by, if◌then◌else◌}
 use Rattle.std.specs.List.{filter_map, list_any}
 use Rattle.std.specs.Option.{option_map, option_map_or}
 use Rattle.std.specs.Str.{bytes_eq}
@@ -10,15 +10,16 @@ use Rattle.mz_trace.specs.declared.round.TheConstants.{MOST_ROUNDS}
 use Rattle.mz_trace.specs.declared.round.Round.{Round as Rounded}
 use Rattle.mz_trace.specs.declared.open_round.OpenRound.{OpenRound}
 use Rattle.mz_trace.specs.declared.reader.Reader.{Reader}
-use Rattle.mz_trace.specs.declared.fault.Why.{Why}
-use Rattle.mz_trace.specs.declared.fault.Why.TheVariants.{OutOfPlace, GivenBefore}
+use Rattle.mz_lines.specs.declared.why.Why.{Why}
+use Rattle.mz_lines.specs.declared.why.Why.TheVariants.{OutOfPlace, GivenBefore}
 use Rattle.mz_trace.specs.declared.fault.TraceFault.{TraceFault}
 use Rattle.mz_trace.specs.declared.fault.TraceFault.TheVariants.{Bad, NoMemory}
-use Rattle.mz_trace.specs.declared.line.Line.{Line}
-use Rattle.mz_trace.specs.declared.line.Line.TheVariants.{Round, Start, Call}
-use Rattle.mz_trace.specs.Spaces.{profile_in}
-use Rattle.mz_trace.specs.Lines.{gives, given_by}
-use Rattle.mz_trace.specs.Faults.{BadLine, why_number, why_of, second, later, word_whys, word_holds, begins_round, has_callers_line, given_in, is_out_of_place, is_given_before}
+use Rattle.mz_lines.specs.declared.line.Line.{Line}
+use Rattle.mz_lines.specs.declared.line.Line.TheVariants.{Round, Start, Call}
+use Rattle.mz_lines.specs.Spaces.{profile_in}
+use Rattle.mz_lines.specs.Lines.{gives, given_by}
+use Rattle.mz_lines.specs.Whys.{why_number, word_why}
+use Rattle.mz_trace.specs.Faults.{BadLine, why_of, second, later, begins_round, has_callers_line, given_in, is_out_of_place, is_given_before}
 use Rattle.mz_trace.specs.Given.{has_name}
 use Rattle.mz_trace.specs.Reading.{rounds_of, with_line}
 
@@ -98,9 +99,6 @@ pub record Takes (callers : ℕ) (x : Line) (old new : Reader) (why : Option Why
   pub added : why ≡ None → Adds callers x old new
 
 -- the first why that holds of a later line: of its words, and then of its place
-abbrev pub word_why : ℕ → List (List ℕ) → Option Why
-word_why callers words = find (word_holds callers words) word_whys
-
 abbrev pub place_why : List (List (List ℕ)) → List (List ℕ) → Option Why
 place_why before words = if is_out_of_place before words then Some OutOfPlace else if is_given_before before words then Some GivenBefore else None
 

@@ -1,10 +1,10 @@
 -- How lines make rounds. This project's own.
 use Rattle.std.specs.Prelude.{ℕ, zero, suc, ◌+◌, ◌≡◌, ◌==◌, List, [], ◌∷◌, ◌++◌, map, length, if◌then◌else◌}
 use Rattle.std.specs.List.{AllByRecursion}
-use Rattle.mz_trace.specs.declared.command.Command.{Command}
+use Rattle.mz_lines.specs.declared.command.Command.{Command}
 use Rattle.mz_trace.specs.declared.round.Round.{Round}
-use Rattle.mz_trace.specs.declared.line.Line.{Line}
-use Rattle.mz_trace.specs.declared.line.Line.TheVariants.{Round as round, Start as start, Call as call}
+use Rattle.mz_lines.specs.declared.line.Line.{Line}
+use Rattle.mz_lines.specs.declared.line.Line.TheVariants.{Round as round, Start as start, Call as call}
 
 -- a command with the caller that gives it
 abbrev pub Call : Type 0

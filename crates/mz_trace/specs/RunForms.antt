@@ -4,7 +4,7 @@ use Rattle.std.specs.Prelude.{ℕ, ◌≡◌, ◌≤◌, ◌^◌, ◌==◌, ◌+
 use Rattle.std.specs.List.{list_all, flat_map}
 use Rattle.mz_base.specs.Limits.{IsWithinLimits}
 use Rattle.mz_trace.specs.declared.round.TheConstants.{MOST_ROUNDS}
-use Rattle.mz_trace.specs.declared.command.Command.{Command}
+use Rattle.mz_lines.specs.declared.command.Command.{Command}
 use Rattle.mz_trace.specs.declared.run.Step.{Step}
 use Rattle.mz_trace.specs.declared.run.StartRecord.{StartRecord}
 use Rattle.mz_trace.specs.declared.run.CallRecord.{CallRecord}
@@ -12,11 +12,11 @@ use Rattle.mz_trace.specs.declared.run.RunRound.{RunRound}
 use Rattle.mz_trace.specs.declared.run.Run.{Run}
 use Rattle.mz_trace.specs.declared.tail.Figures.{Figures}
 use Rattle.mz_words.specs.Numbers.{is_u64}
-use Rattle.mz_trace.specs.Commands.{command_fits}
-use Rattle.mz_trace.specs.RoundLines.{start_fits}
-use Rattle.mz_trace.specs.Events.{event_fits}
-use Rattle.mz_trace.specs.Answers.{answer_fits}
-use Rattle.mz_trace.specs.Lines.{command_gives}
+use Rattle.mz_lines.specs.Commands.{command_fits}
+use Rattle.mz_lines.specs.RoundLines.{start_fits}
+use Rattle.mz_lines.specs.Events.{event_fits}
+use Rattle.mz_lines.specs.Answers.{answer_fits}
+use Rattle.mz_lines.specs.Lines.{command_gives}
 use Rattle.mz_trace.specs.RunTexts.{run_text}
 use Rattle.mz_trace.specs.TailTexts.{listed_fits, statistics_fit, tail_text}
 

@@ -2,7 +2,7 @@
 use Rattle.std.specs.Prelude.{ℕ, ◌+◌, List, [], ◌∷◌, ◌++◌, map, codes}
 use Rattle.std.specs.List.{flat_map}
 use Rattle.std.specs.Fmt.{decimal}
-use Rattle.mz_trace.specs.declared.answer.Answer.{Answer}
+use Rattle.mz_lines.specs.declared.answer.Answer.{Answer}
 use Rattle.mz_trace.specs.declared.run.Step.{Step}
 use Rattle.mz_trace.specs.declared.run.StartRecord.{StartRecord}
 use Rattle.mz_trace.specs.declared.run.CallRecord.{CallRecord}
@@ -11,11 +11,11 @@ use Rattle.mz_trace.specs.declared.run.Run.{Run}
 use Rattle.mz_trace.specs.declared.round.Round.{Round}
 use Rattle.mz_trace.specs.declared.trace.Trace.{Trace}
 use Rattle.mz_words.specs.Lines.{line_text}
-use Rattle.mz_trace.specs.Commands.{command_words}
-use Rattle.mz_trace.specs.RoundLines.{start_words}
-use Rattle.mz_trace.specs.Events.{event_words}
-use Rattle.mz_trace.specs.Answers.{answer_words}
-use Rattle.mz_trace.specs.Spaces.{space_words}
+use Rattle.mz_lines.specs.Commands.{command_words}
+use Rattle.mz_lines.specs.RoundLines.{start_words}
+use Rattle.mz_lines.specs.Events.{event_words}
+use Rattle.mz_lines.specs.Answers.{answer_words}
+use Rattle.mz_lines.specs.Spaces.{space_words}
 
 -- an entry: its ticket and its event
 abbrev pub step_words : Step → List (List ℕ)

@@ -6,9 +6,9 @@ use Rattle.mz_base.specs.declared.profile.Profile.{Profile}
 use Rattle.mz_trace.specs.declared.round.TheConstants.{MOST_ROUNDS}
 use Rattle.mz_trace.specs.declared.trace.Trace.{Trace}
 use Rattle.mz_words.specs.Lines.{line_text}
-use Rattle.mz_trace.specs.declared.line.Line.{Line}
-use Rattle.mz_trace.specs.Lines.{line_words, line_fits, gives}
-use Rattle.mz_trace.specs.Spaces.{space_words}
+use Rattle.mz_lines.specs.declared.line.Line.{Line}
+use Rattle.mz_lines.specs.Lines.{line_words, line_fits, gives}
+use Rattle.mz_lines.specs.Spaces.{space_words}
 use Rattle.mz_trace.specs.Rounds.{AreRounds, HaveLists, lines_of_rounds}
 
 -- the words of the first line

@@ -1,10 +1,10 @@
 //! The names under which blocks were given, so that none is given twice.
 
 ghost use Rattle.std.specs.Prelude.{◌≡◌, [], OnOk};
-ghost use Rattle.mz_trace.specs.Lines.{given_by};
+ghost use Rattle.mz_lines.specs.Lines.{given_by};
 ghost use Rattle.mz_trace.specs.Given.{has_name, with_name};
 
-use crate::command::Command;
+use mz_lines::Command;
 use mz_words::BaseName;
 use std::alloc::{AllocError, Global};
 use std::collections::BTreeSet;

@@ -7,26 +7,19 @@
 //! is what stands behind it. Beside that each of them may only answer that memory is short. Traces and
 //! runs are plain values: a contract sees each of their lists as a list.
 //!
-//! Each line is a sentence of `mz_words`: a row of the table there says what its words are, and a
-//! conversion here what they mean.
+//! What stands in one line, `mz_lines` reads and writes; its types are named here too.
 //!
-//! - `command`, `round`, `line`, `trace`: what a trace is made of, to and from sentences.
-//! - `answer`, `event`, `run`, `tail`: what a run adds, and what stands behind it.
-//! - `space`: the second line, to and from a profile.
+//! - `round`, `trace`: what a trace is made of.
+//! - `run`, `tail`: what a run adds, and what stands behind it.
 //! - `open_round`, `given`, `reader`, `parser`: from bytes to a trace.
-//! - `fault`, `checks`: what can be wrong with a line.
+//! - `fault`: what can be wrong with a text.
 //! - `printer`, `run_printer`: from a trace to its text in normal form, and from a run to its text.
 //! - `laws`: what the definitions of texts mean, as contracts of functions that do nothing.
 #![tactic(auto)]
 
-pub mod answer;
-mod checks;
-pub mod command;
-mod event;
 pub mod fault;
 pub mod given;
 pub mod laws;
-pub mod line;
 mod open_round;
 mod parser;
 mod printer;
@@ -34,17 +27,14 @@ mod reader;
 pub mod round;
 pub mod run;
 mod run_printer;
-pub mod space;
 pub mod tail;
 pub mod trace;
 
-pub use answer::Answer;
-pub use command::{Command, Names, Renaming};
-pub use fault::{TraceFault, Why};
-pub use line::Line;
+pub use fault::TraceFault;
+pub use mz_lines::{Answer, Command, Line, Names, Renaming, RoundLine, Why};
 pub use parser::parse;
 pub use printer::print_trace;
-pub use round::{Round, RoundLine};
+pub use round::Round;
 pub use run::{CallRecord, Run, RunRound, StartRecord, Step};
 pub use run_printer::print_run;
 pub use tail::{Figures, Listed, Statistics, Tail};

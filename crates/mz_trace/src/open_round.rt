@@ -2,8 +2,9 @@
 
 ghost use Rattle.std.specs.Prelude.{◌≡◌, ◌<◌, ◌++◌, ◌∷◌, [], OnOk, OnErr, IfOk, length, slice_index_or, slice_set, replicate};
 
-use crate::command::Command;
-use crate::round::{Round, RoundLine};
+use mz_lines::Command;
+use crate::round::Round;
+use mz_lines::RoundLine;
 use mz_base::Items;
 use std::alloc::{AllocError, Global};
 use std::marker::Model;
@@ -16,7 +17,7 @@ pub struct CallerLists {
 
 impl Model for CallerLists {
     ghost use Rattle.std.specs.Prelude.{List};
-    ghost use Rattle.mz_trace.specs.declared.command.Command.{Command};
+    ghost use Rattle.mz_lines.specs.declared.command.Command.{Command};
 
     ghost Value = { List (List Command) };
 

@@ -9,13 +9,14 @@ ghost use Rattle.mz_trace.specs.Texts.{IsTrace, IsTraceText};
 ghost use Rattle.mz_trace.specs.Reading.{rounds_of, behind, trace_in};
 ghost use Rattle.mz_trace.specs.Readers.{ComesTo, IsSecond};
 
-use crate::fault::{TraceFault, Why};
+use crate::fault::TraceFault;
+use mz_lines::Why;
 use crate::reader::Reader;
 use crate::round::Round;
-use crate::space::read_space;
+use mz_lines::space::read_space;
 use crate::trace::Trace;
 use mz_base::{Items, Profile};
-use mz_words::laws::word_laws;
+use mz_lines::laws::line_laws;
 use mz_words::line::is_plain;
 use mz_words::{RawLine, next_line, words};
 use std::alloc::{AllocError, Global};
@@ -33,7 +34,7 @@ pub fn parse(alloc: Global, bytes: &[u8]) -> Result<Trace, TraceFault>
     // It keeps all rules of a trace, so that it has a normal form.
     ensures trace { IfOk result (λ t. IsTrace t) }
 {
-    word_laws();
+    line_laws();
     read_all(alloc, bytes)
 }
 

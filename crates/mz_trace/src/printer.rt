@@ -5,14 +5,17 @@
 
 ghost use Rattle.std.specs.Prelude.{◌≡◌, ◌++◌, OnOk, IfOk, string_bytes, map};
 ghost use Rattle.mz_words.specs.Lines.{line_text};
-ghost use Rattle.mz_trace.specs.declared.line.Line.TheVariants.{Start as start, Call as call};
-ghost use Rattle.mz_trace.specs.Lines.{line_words};
+ghost use Rattle.mz_lines.specs.declared.line.Line.TheVariants.{Start as start, Call as call};
+ghost use Rattle.mz_lines.specs.Lines.{line_words};
 ghost use Rattle.mz_trace.specs.Rounds.{call_line, calls_from, round_lines, lines_of_rounds};
 ghost use Rattle.mz_trace.specs.Texts.{lines_text, normal_text, IsTrace, IsTraceText};
 
-use crate::command::{Command, write_command};
-use crate::round::{Round, RoundLine, write_start};
-use crate::space::write_space;
+use mz_lines::Command;
+use mz_lines::command::write_command;
+use crate::round::Round;
+use mz_lines::RoundLine;
+use mz_lines::round_line::write_start;
+use mz_lines::space::write_space;
 use crate::trace::Trace;
 use mz_base::Items;
 use std::alloc::{AllocError, Global};

@@ -1,20 +1,22 @@
 //! What is kept of the lines that were read, and what the next one adds.
 
 ghost use Rattle.std.specs.Prelude.{◌≡◌, ◌<◌, ◌||◌, ℕ, List, map, [], None, OnOk, IfOk};
-ghost use Rattle.mz_trace.specs.declared.line.Line.TheVariants.{Round as round, Start as start, Call as call};
-ghost use Rattle.mz_trace.specs.Lines.{command_gives};
+ghost use Rattle.mz_lines.specs.declared.line.Line.TheVariants.{Round as round, Start as start, Call as call};
+ghost use Rattle.mz_lines.specs.Lines.{command_gives};
 ghost use Rattle.mz_trace.specs.Given.{has_name};
 ghost use Rattle.mz_words.specs.Lines.{cut_of};
 
-use crate::checks::word_why;
-use crate::command::Command;
-use crate::fault::Why;
+use mz_lines::checks::word_why;
+use mz_lines::Command;
+use mz_lines::Why;
 use crate::given::{GivenNames, given_by};
-use crate::line::{Line, read_line};
+use mz_lines::Line;
+use mz_lines::line::read_line;
 use crate::open_round::OpenRound;
-use crate::round::{MOST_ROUNDS, Round, RoundLine};
+use crate::round::{MOST_ROUNDS, Round};
+use mz_lines::RoundLine;
 use mz_base::Items;
-use mz_words::laws::word_laws;
+use mz_lines::laws::line_laws;
 use mz_words::line::is_plain;
 use mz_words::{RawLine, words};
 use std::alloc::{AllocError, Global};
@@ -126,7 +128,7 @@ impl Reader {
         requires { IsReading callers self.old }
         ensures { (before : List (List (List ℕ))) → HasRead callers before self.old → IfOk result (ReadsLine callers before (map (λ w. w.now) words.now) self.new) }
     {
-        word_laws();
+        line_laws();
         match read_line(alloc, callers, words)? {
             None => Ok(word_why(callers, words)),
             Some(line) => self.take(alloc, callers, line.get()),

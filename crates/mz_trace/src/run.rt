@@ -1,6 +1,6 @@
-use crate::answer::Answer;
-use crate::command::Command;
-use crate::round::RoundLine;
+use mz_lines::Answer;
+use mz_lines::Command;
+use mz_lines::RoundLine;
 use mz_base::{Items, Profile};
 use mz_events::Event;
 

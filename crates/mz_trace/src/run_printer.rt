@@ -7,17 +7,18 @@ ghost use Rattle.std.specs.Prelude.{◌≡◌, ◌++◌, ◌∷◌, IfOk, OnOk, 
 ghost use Rattle.std.specs.List.{flat_map};
 ghost use Rattle.mz_words.specs.Lines.{line_text};
 ghost use Rattle.mz_trace.specs.declared.tail.Figures.{Figures as figures};
-ghost use Rattle.mz_trace.specs.Answers.{answer_words};
+ghost use Rattle.mz_lines.specs.Answers.{answer_words};
 ghost use Rattle.mz_trace.specs.RunForms.{IsRun, IsTail, IsRunText};
 ghost use Rattle.mz_trace.specs.RunTexts.{outcome_lines, run_text, run_round_lines, sections_from, section_lines, start_record_lines, call_record_lines, step_words};
 ghost use Rattle.mz_trace.specs.TailTexts.{tail_text, listed_words, statistics_lines};
 
-use crate::answer::{Answer, write_answer};
-use crate::command::write_command;
-use crate::event::write_event;
-use crate::round::write_start;
+use mz_lines::Answer;
+use mz_lines::answer::write_answer;
+use mz_lines::command::write_command;
+use mz_lines::event::write_event;
+use mz_lines::round_line::write_start;
 use crate::run::{CallRecord, Run, RunRound, StartRecord, Step};
-use crate::space::write_space;
+use mz_lines::space::write_space;
 use crate::tail::{Figures, Listed, Statistics};
 use mz_base::Items;
 use mz_words::{Form, Word, write_sentence};

@@ -2,4 +2,4 @@ use Rattle.mz_trace.proofs.TraceTextIsRead.{one_trace}
 use Rattle.mz_trace.proofs.laws.one_trace.Goals as goal
 
 pub returns : goal.returns
-returns c = one_trace c.word_laws.ensures
+returns c = one_trace c.line_laws.ensures

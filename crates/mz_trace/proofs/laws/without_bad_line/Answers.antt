@@ -2,4 +2,4 @@ use Rattle.mz_trace.proofs.TraceTextIsRead.{without_bad_line}
 use Rattle.mz_trace.proofs.laws.without_bad_line.Goals as goal
 
 pub returns : goal.returns
-returns c = without_bad_line c.word_laws.ensures
+returns c = without_bad_line c.line_laws.ensures

@@ -5,7 +5,7 @@ use Rattle.mz_trace.proofs.parser.parse.Goals as goal
 
 pub returns : goal.returns
 returns c =
-    let laws = c.word_laws.ensures in
+    let laws = c.line_laws.ensures in
     record {
       found = is_found laws c.args.bytes.now c.read_all.result c.read_all.ensures;
       only = λ t text. only laws c.args.bytes.now t c.read_all.result text c.read_all.ensures;

@@ -1,7 +1,7 @@
 use Rattle.std.proofs.Common.{◌≡◌, ◌++◌, take, map}
 use Rattle.std.specs.Prelude.{string_bytes}
 use Rattle.mz_trace.specs.Texts.{lines_text}
-use Rattle.mz_trace.specs.declared.line.Line.TheVariants.{Call as call}
+use Rattle.mz_lines.specs.declared.line.Line.TheVariants.{Call as call}
 use Rattle.mz_trace.proofs.printer.print_calls.Given as goal
 
 abbrev pub invariant-loop-command : goal.invariant-loop-command

@@ -1,0 +1,9 @@
+pub mod Commands
+pub mod RoundLines
+pub mod Events
+pub mod Answers
+pub mod Spaces
+pub mod Lines
+pub mod Whys
+pub mod LineReading
+pub mod Laws

@@ -1,0 +1,5 @@
+use Rattle.mz_trace.proofs.ReaderGrows.{name_added}
+use Rattle.mz_trace.proofs.laws.one_more_name.Goals as goal
+
+pub returns : goal.returns
+returns c = name_added

@@ -10,8 +10,8 @@ use Rattle.mz_events.specs.declared.place.Place.{Place}
 use Rattle.mz_events.specs.declared.entry.Entry.{Entry}
 use Rattle.mz_events.specs.declared.event.Event.{Event}
 use Rattle.mz_events.specs.declared.event.Event.TheVariants.{Take, Back, Move, New, End, Size, Full, Dry, No, Open, Shut}
-use Rattle.mz_trace.specs.declared.answer.Answer.{Answer}
-use Rattle.mz_trace.specs.declared.answer.Answer.TheVariants as answers
+use Rattle.mz_lines.specs.declared.answer.Answer.{Answer}
+use Rattle.mz_lines.specs.declared.answer.Answer.TheVariants as answers
 use Rattle.mz_record.specs.Moments.{duty_left}
 use Rattle.mz_record.specs.Served.{is_dry, events, IsUndisturbed, Request, IsServed, Serves, ServeInTurn}
 use Rattle.mz_record.specs.Dropped.{IsDropped}

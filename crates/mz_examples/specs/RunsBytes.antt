@@ -1,8 +1,8 @@
 -- Worked runs in which a block is filled, and then goes to another caller or gets another size; by the two bytes that are
 -- shown of it then.
 use Rattle.std.specs.Prelude.{ℕ, List, [], ◌∷◌, ◌++◌, codes}
-use Rattle.mz_trace.specs.declared.answer.Answer.TheVariants as answers
-use Rattle.mz_trace.specs.declared.command.Command.TheVariants.{Malloc, Fill, Show, Give}
+use Rattle.mz_lines.specs.declared.answer.Answer.TheVariants as answers
+use Rattle.mz_lines.specs.declared.command.Command.TheVariants.{Malloc, Fill, Show, Give}
 use Rattle.mz_trace.specs.declared.run.CallRecord.{CallRecord}
 use Rattle.mz_trace.specs.declared.run.Run.{Run}
 use Rattle.mz_words.specs.declared.name.Name.{Name}

@@ -12,12 +12,12 @@ use Rattle.mz_events.specs.State.{State, opening, blank, nothing_kept}
 use Rattle.mz_examples.specs.Examples.{profile_of, entry_of, first_region, magazine, depot, large}
 use Rattle.mz_examples.specs.Rows.{LAST_PAGE, second}
 use Rattle.mz_examples.specs.Edges.{entry_of_other, two_callers, small_magazine, small_depot}
-use Rattle.mz_trace.specs.declared.command.Command.{Command}
-use Rattle.mz_trace.specs.declared.command.Command.TheVariants.{Malloc, Realloc}
-use Rattle.mz_trace.specs.declared.command.Names.TheVariants.{Renamed}
+use Rattle.mz_lines.specs.declared.command.Command.{Command}
+use Rattle.mz_lines.specs.declared.command.Command.TheVariants.{Malloc, Realloc}
+use Rattle.mz_lines.specs.declared.renaming.Names.TheVariants.{Renamed}
 use Rattle.mz_words.specs.declared.name.Name.TheVariants.{Base}
-use Rattle.mz_trace.specs.declared.answer.Answer.TheVariants as answers
-use Rattle.mz_trace.specs.declared.round.RoundLine.TheVariants.{Zone}
+use Rattle.mz_lines.specs.declared.answer.Answer.TheVariants as answers
+use Rattle.mz_lines.specs.declared.round_line.RoundLine.TheVariants.{Zone}
 use Rattle.mz_trace.specs.declared.run.CallRecord.{CallRecord}
 use Rattle.mz_trace.specs.declared.run.Run.{Run}
 use Rattle.mz_examples.specs.Records.{record_of, start_of, round_of_records, run_of_one}

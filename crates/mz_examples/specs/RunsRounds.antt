@@ -4,11 +4,11 @@ use Rattle.mz_events.specs.declared.event.Event.TheVariants.{Take, New, End, Ful
 use Rattle.mz_events.specs.declared.entry.Entry.{Entry}
 use Rattle.mz_examples.specs.Examples.{entry_of, magazine, depot}
 use Rattle.mz_examples.specs.Edges.{entry_of_other, two_callers, small_magazine, small_depot}
-use Rattle.mz_trace.specs.declared.command.Command.TheVariants.{Malloc, Free}
+use Rattle.mz_lines.specs.declared.command.Command.TheVariants.{Malloc, Free}
 use Rattle.mz_words.specs.declared.name.Name.TheVariants.{Base}
-use Rattle.mz_trace.specs.declared.answer.Answer.{Answer}
-use Rattle.mz_trace.specs.declared.answer.Answer.TheVariants as answers
-use Rattle.mz_trace.specs.declared.round.RoundLine.TheVariants.{Zone}
+use Rattle.mz_lines.specs.declared.answer.Answer.{Answer}
+use Rattle.mz_lines.specs.declared.answer.Answer.TheVariants as answers
+use Rattle.mz_lines.specs.declared.round_line.RoundLine.TheVariants.{Zone}
 use Rattle.mz_trace.specs.declared.run.RunRound.{RunRound}
 use Rattle.mz_trace.specs.declared.run.Run.{Run}
 use Rattle.mz_examples.specs.RunsServed.{two_callers_in_8_pages, both_full, dry_at}

@@ -4,11 +4,11 @@ use Rattle.mz_base.specs.declared.range.Range.TheVariants as range
 use Rattle.mz_events.specs.declared.entry.Entry.{Entry}
 use Rattle.mz_events.specs.declared.event.Event.TheVariants.{Take, New, End, Full, Dry}
 use Rattle.mz_events.specs.declared.event.Event.TheVariants as event
-use Rattle.mz_trace.specs.declared.answer.Answer.{Answer}
-use Rattle.mz_trace.specs.declared.answer.Answer.TheVariants as answers
-use Rattle.mz_trace.specs.declared.command.Command.{Command}
-use Rattle.mz_trace.specs.declared.command.Command.TheVariants.{Malloc, Calloc, Valloc, Memalign, Realloc, Free, FreeAt, SizedFree, Size, Fill, Show, Link, Batch, Unbatch}
-use Rattle.mz_trace.specs.declared.command.Names.TheVariants.{Fresh, Renamed}
+use Rattle.mz_lines.specs.declared.answer.Answer.{Answer}
+use Rattle.mz_lines.specs.declared.answer.Answer.TheVariants as answers
+use Rattle.mz_lines.specs.declared.command.Command.{Command}
+use Rattle.mz_lines.specs.declared.command.Command.TheVariants.{Malloc, Calloc, Valloc, Memalign, Realloc, Free, FreeAt, SizedFree, Size, Fill, Show, Link, Batch, Unbatch}
+use Rattle.mz_lines.specs.declared.renaming.Names.TheVariants.{Fresh, Renamed}
 use Rattle.mz_trace.specs.declared.run.CallRecord.{CallRecord}
 use Rattle.mz_trace.specs.declared.run.Run.{Run}
 use Rattle.mz_trace.specs.declared.tail.Figures.{Figures}

@@ -4,10 +4,10 @@ use Rattle.mz_base.specs.declared.profile.Profile.{Profile}
 use Rattle.mz_events.specs.declared.place.Place.TheVariants.{TinyDepot, Large}
 use Rattle.mz_events.specs.declared.event.Event.TheVariants.{Take, Back, New, End, Full, No, Open, Shut}
 use Rattle.mz_events.specs.declared.entry.Entry.{Entry}
-use Rattle.mz_trace.specs.declared.answer.Answer.{Answer}
-use Rattle.mz_trace.specs.declared.answer.Answer.TheVariants as answers
-use Rattle.mz_trace.specs.declared.command.Command.TheVariants.{Malloc, Free, ZoneFree, Fill, Show, Give, Use}
-use Rattle.mz_trace.specs.declared.round.RoundLine.TheVariants as line
+use Rattle.mz_lines.specs.declared.answer.Answer.{Answer}
+use Rattle.mz_lines.specs.declared.answer.Answer.TheVariants as answers
+use Rattle.mz_lines.specs.declared.command.Command.TheVariants.{Malloc, Free, ZoneFree, Fill, Show, Give, Use}
+use Rattle.mz_lines.specs.declared.round_line.RoundLine.TheVariants as line
 use Rattle.mz_trace.specs.declared.run.CallRecord.{CallRecord}
 use Rattle.mz_trace.specs.declared.run.StartRecord.{StartRecord}
 use Rattle.mz_trace.specs.declared.run.RunRound.{RunRound}

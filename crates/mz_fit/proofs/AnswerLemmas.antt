@@ -1,7 +1,7 @@
 -- A task and its entries leave one answer.
 use Rattle.std.proofs.Common.{◌≡◌, ℕ, List, sym, ◌∙◌, inl, inr, ◌⊎◌, ap, subst, []}
 use Rattle.mz_events.specs.declared.entry.Entry.{Entry}
-use Rattle.mz_trace.specs.declared.answer.Answer.{Answer}
+use Rattle.mz_lines.specs.declared.answer.Answer.{Answer}
 use Rattle.mz_fit.specs.Records.{LineRecord, caller_of}
 use Rattle.mz_fit.specs.Settings.{Setting}
 use Rattle.mz_fit.specs.Tasks.{Task, refused, serving, resizing, dropping, denying, telling, filling, showing, linking, giving, batching, unbatching, using, opening_zone, destroying_zone, task_of}

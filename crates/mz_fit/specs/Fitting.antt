@@ -3,8 +3,8 @@ use Rattle.std.specs.Prelude.{ℕ, ◌+◌, ◌≡◌, Bool, true, nat_le, ◌&&
 use Rattle.mz_base.specs.Space.{Block}
 use Rattle.mz_events.specs.declared.entry.Entry.{Entry}
 use Rattle.mz_events.specs.declared.event.Event.TheVariants.{Open}
-use Rattle.mz_trace.specs.declared.answer.Answer.{Answer}
-use Rattle.mz_trace.specs.declared.answer.Answer.TheVariants as answers
+use Rattle.mz_lines.specs.declared.answer.Answer.{Answer}
+use Rattle.mz_lines.specs.declared.answer.Answer.TheVariants as answers
 use Rattle.mz_record.specs.Served.{events, blocks_made, first_made, Serves, ServeInTurn}
 use Rattle.mz_record.specs.Dropped.{IsDropped, DropInTurn, IsNotOfZone}
 use Rattle.mz_record.specs.Resized.{IsReallocated, reallocated}

@@ -8,13 +8,13 @@ use Rattle.mz_base.specs.declared.range.Range.{Range}
 use Rattle.mz_base.specs.declared.range.Range.TheVariants as range
 use Rattle.mz_base.specs.Sizes.{route_of}
 use Rattle.mz_base.specs.Space.{Block}
-use Rattle.mz_trace.specs.declared.answer.Answer.{Answer}
-use Rattle.mz_trace.specs.declared.answer.Answer.TheVariants as answers
-use Rattle.mz_trace.specs.declared.command.Command.{Command}
-use Rattle.mz_trace.specs.declared.command.Command.TheVariants.{Malloc, Calloc, Valloc, Memalign, Realloc, Free, FreeAt, ZoneFree, SizedFree, Size, Fill, Show, Link, Give, Batch, Unbatch, Use}
-use Rattle.mz_trace.specs.declared.round.RoundLine.{RoundLine}
-use Rattle.mz_trace.specs.declared.round.RoundLine.TheVariants as round_line
-use Rattle.mz_trace.specs.Commands.{old_name, new_name}
+use Rattle.mz_lines.specs.declared.answer.Answer.{Answer}
+use Rattle.mz_lines.specs.declared.answer.Answer.TheVariants as answers
+use Rattle.mz_lines.specs.declared.command.Command.{Command}
+use Rattle.mz_lines.specs.declared.command.Command.TheVariants.{Malloc, Calloc, Valloc, Memalign, Realloc, Free, FreeAt, ZoneFree, SizedFree, Size, Fill, Show, Link, Give, Batch, Unbatch, Use}
+use Rattle.mz_lines.specs.declared.round_line.RoundLine.{RoundLine}
+use Rattle.mz_lines.specs.declared.round_line.RoundLine.TheVariants as round_line
+use Rattle.mz_lines.specs.Commands.{old_name, new_name}
 use Rattle.mz_words.specs.declared.name.Name.{Name}
 use Rattle.mz_words.specs.declared.name.Name.TheVariants as names
 use Rattle.mz_events.specs.State.{State}

@@ -2,7 +2,7 @@
 
 ghost use Rattle.std.specs.Prelude.{◌≡◌, ◌≢◌, ◌++◌, ◌⊎◌, ℕ, List, []};
 ghost use Rattle.mz_events.specs.declared.entry.Entry.{Entry as entry};
-ghost use Rattle.mz_trace.specs.declared.answer.Answer.{Answer as answer};
+ghost use Rattle.mz_lines.specs.declared.answer.Answer.{Answer as answer};
 ghost use Rattle.mz_trace.specs.declared.run.RunRound.{RunRound as run_round};
 ghost use Rattle.mz_fit.specs.Records.{LineRecord};
 ghost use Rattle.mz_fit.specs.Standing.{Caller, Standing, caller_at, with_caller};

@@ -4,8 +4,8 @@ ghost use Rattle.std.specs.Prelude.{◌≡◌, ◌==◌, length, map};
 ghost use Rattle.std.specs.List.{list_any};
 ghost use Rattle.mz_lines.specs.Whys.{behind_first, caller_wrong, field_wrong, fields_of, form_among_words, form_of, has_count, has_flaw, word_holds, word_why};
 
-use crate::why::Why;
 use crate::line::begins_with_digit;
+use crate::why::Why;
 use mz_words::flaw::is_wrong;
 use mz_words::table::{COMMANDS, ROUND_LINES};
 use mz_words::{Flaw, Form, Kind, form_among, some_wrong};

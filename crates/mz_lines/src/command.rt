@@ -143,13 +143,7 @@ fn write_sized(out: &mut String, form: Form, name: BaseName, n: u64) -> Result<(
 }
 
 /// A base name, and two numbers.
-fn write_two(
-    out: &mut String,
-    form: Form,
-    name: BaseName,
-    n: u64,
-    m: u64,
-) -> Result<(), AllocError>
+fn write_two(out: &mut String, form: Form, name: BaseName, n: u64, m: u64) -> Result<(), AllocError>
     ensures { OnOk result (string_bytes out.new ≡ string_bytes out.old ++ join_with_byte 32 (sentence_words (sentence form (word.Base name ∷ word.Number n ∷ word.Number m ∷ [])))) }
 {
     let words = [Word::Base(name), Word::Number(n), Word::Number(m)];
@@ -287,7 +281,11 @@ fn calloc_of(words: &[Word]) -> Option<Command>
     ensures { result ≡ command_of form.Calloc words.now }
 {
     match words {
-        [Word::Base(name), Word::Number(n), Word::Number(m)] => Some(Command::Calloc { name: *name, n: *n, m: *m }),
+        [Word::Base(name), Word::Number(n), Word::Number(m)] => Some(Command::Calloc {
+            name: *name,
+            n: *n,
+            m: *m,
+        }),
         _ => None,
     }
 }
@@ -305,12 +303,16 @@ fn memalign_of(words: &[Word]) -> Option<Command>
     ensures { result ≡ command_of form.Memalign words.now }
 {
     match words {
-        [Word::Base(name), Word::Number(al), Word::Number(n)] => Some(Command::Memalign { name: *name, al: *al, n: *n }),
+        [Word::Base(name), Word::Number(al), Word::Number(n)] => Some(Command::Memalign {
+            name: *name,
+            al: *al,
+            n: *n,
+        }),
         _ => None,
     }
 }
 
-fn names_of(words: &[Word]) -> Option<Command>
+fn realloc_of(words: &[Word]) -> Option<Command>
     ensures { result ≡ command_of form.Realloc words.now }
 {
     match words {
@@ -332,7 +334,10 @@ fn free_at_of(words: &[Word]) -> Option<Command>
     ensures { result ≡ command_of form.FreeAt words.now }
 {
     match words {
-        [Word::Name(name), Word::Number(off)] => Some(Command::FreeAt { name: *name, off: *off }),
+        [Word::Name(name), Word::Number(off)] => Some(Command::FreeAt {
+            name: *name,
+            off: *off,
+        }),
         _ => None,
     }
 }
@@ -341,7 +346,10 @@ fn zone_free_of(words: &[Word]) -> Option<Command>
     ensures { result ≡ command_of form.ZoneFree words.now }
 {
     match words {
-        [Word::Zone(zone), Word::Name(name)] => Some(Command::ZoneFree { zone: *zone, name: *name }),
+        [Word::Zone(zone), Word::Name(name)] => Some(Command::ZoneFree {
+            zone: *zone,
+            name: *name,
+        }),
         _ => None,
     }
 }
@@ -368,7 +376,10 @@ fn fill_of(words: &[Word]) -> Option<Command>
     ensures { result ≡ command_of form.Fill words.now }
 {
     match words {
-        [Word::Name(name), Word::Byte(byte)] => Some(Command::Fill { name: *name, byte: *byte }),
+        [Word::Name(name), Word::Byte(byte)] => Some(Command::Fill {
+            name: *name,
+            byte: *byte,
+        }),
         _ => None,
     }
 }
@@ -377,7 +388,11 @@ fn show_of(words: &[Word]) -> Option<Command>
     ensures { result ≡ command_of form.Show words.now }
 {
     match words {
-        [Word::Name(name), Word::Number(off), Word::ShowCount(count)] => Some(Command::Show { name: *name, off: *off, count: *count }),
+        [Word::Name(name), Word::Number(off), Word::ShowCount(count)] => Some(Command::Show {
+            name: *name,
+            off: *off,
+            count: *count,
+        }),
         _ => None,
     }
 }
@@ -386,7 +401,11 @@ fn link_of(words: &[Word]) -> Option<Command>
     ensures { result ≡ command_of form.Link words.now }
 {
     match words {
-        [Word::Name(name), Word::Number(off), Word::Name(target)] => Some(Command::Link { name: *name, off: *off, target: *target }),
+        [Word::Name(name), Word::Number(off), Word::Name(target)] => Some(Command::Link {
+            name: *name,
+            off: *off,
+            target: *target,
+        }),
         _ => None,
     }
 }
@@ -395,7 +414,11 @@ fn give_of(words: &[Word]) -> Option<Command>
     ensures { result ≡ command_of form.Give words.now }
 {
     match words {
-        [Word::Name(name), Word::Caller(to), Word::Given(given)] => Some(Command::Give { name: *name, to: *to, given: *given }),
+        [Word::Name(name), Word::Caller(to), Word::Given(given)] => Some(Command::Give {
+            name: *name,
+            to: *to,
+            given: *given,
+        }),
         _ => None,
     }
 }
@@ -404,7 +427,11 @@ fn batch_of(words: &[Word]) -> Option<Command>
     ensures { result ≡ command_of form.Batch words.now }
 {
     match words {
-        [Word::Base(name), Word::BatchCount(count), Word::Number(n)] => Some(Command::Batch { name: *name, count: *count, n: *n }),
+        [Word::Base(name), Word::BatchCount(count), Word::Number(n)] => Some(Command::Batch {
+            name: *name,
+            count: *count,
+            n: *n,
+        }),
         _ => None,
     }
 }

@@ -33,7 +33,12 @@ pub fn write_event(out: &mut String, event: &Event) -> Result<(), AllocError>
             write_sentence(out, Form::Dry, &words)
         }
         Event::No { k, zone, a, s } => {
-            let words = [Word::Place(k), Word::Small(zone), Word::Number(a), Word::Number(s)];
+            let words = [
+                Word::Place(k),
+                Word::Small(zone),
+                Word::Number(a),
+                Word::Number(s),
+            ];
             write_sentence(out, Form::No, &words)
         }
         Event::Open { zone } => write_sentence(out, Form::Open, &[Word::Small(zone)]),
@@ -60,7 +65,12 @@ fn write_three(
 ) -> Result<(), AllocError>
     ensures { OnOk result (string_bytes out.new ≡ string_bytes out.old ++ join_with_byte 32 (sentence_words (sentence form (word.Place k ∷ word.Number a ∷ word.Number n ∷ word.Number m ∷ [])))) }
 {
-    let words = [Word::Place(k), Word::Number(a), Word::Number(n), Word::Number(m)];
+    let words = [
+        Word::Place(k),
+        Word::Number(a),
+        Word::Number(n),
+        Word::Number(m),
+    ];
     write_sentence(out, form, &words)
 }
 

@@ -4,12 +4,12 @@ use Rattle.std.specs.Prelude.{IsTrue, ◌&&◌, ◌==◌, nat_le, map}
 use Rattle.std.specs.List.{list_all}
 use Rattle.std.proofs.lemmas.Bool.{and_parts, and_from, false≢true, eqb-true, leb-true}
 use Rattle.mz_base.specs.declared.profile.Profile.{Profile}
-use Rattle.mz_trace.specs.declared.command.Command.{Command}
+use Rattle.mz_lines.specs.declared.command.Command.{Command}
 use Rattle.mz_trace.specs.declared.round.Round.{Round}
-use Rattle.mz_trace.specs.declared.round.RoundLine.{RoundLine}
+use Rattle.mz_lines.specs.declared.round_line.RoundLine.{RoundLine}
 use Rattle.mz_trace.specs.declared.trace.Trace.{Trace}
-use Rattle.mz_trace.specs.declared.line.Line.{Line}
-use Rattle.mz_trace.specs.declared.line.Line.TheVariants as line
+use Rattle.mz_lines.specs.declared.line.Line.{Line}
+use Rattle.mz_lines.specs.declared.line.Line.TheVariants as line
 use Rattle.mz_trace.specs.Rounds.{HaveLists, call_line, calls_from, round_lines, lines_of_rounds}
 use Rattle.mz_run.specs.Built.{is_built_space, is_built_command, is_built_line, is_built_round, IsBuilt}
 

@@ -8,12 +8,12 @@ use Rattle.std.proofs.lemmas.List.Folds.{list_all-append}
 use Rattle.mz_base.specs.declared.profile.Profile.{Profile}
 use Rattle.mz_trace.specs.declared.round.Round.{Round}
 use Rattle.mz_trace.specs.declared.trace.Trace.{Trace}
-use Rattle.mz_trace.specs.declared.line.Line.{Line}
-use Rattle.mz_trace.specs.declared.line.Line.TheVariants as line
-use Rattle.mz_trace.specs.Lines.{line_words, line_fits}
+use Rattle.mz_lines.specs.declared.line.Line.{Line}
+use Rattle.mz_lines.specs.declared.line.Line.TheVariants as line
+use Rattle.mz_lines.specs.Lines.{line_words, line_fits}
 use Rattle.mz_trace.specs.Rounds.{Call, call_line, commands_by, lists_from, calls_from, IsRound, AreRounds, none, more, round_lines, lines_of_rounds, HaveLists}
 use Rattle.mz_trace.specs.Texts.{first_words, lines_text, IsTraceText, lines_of}
-use Rattle.mz_trace.specs.Spaces.{space_words}
+use Rattle.mz_lines.specs.Spaces.{space_words}
 use Rattle.mz_words.specs.Lines.{line_text}
 use Rattle.mz_run.specs.declared.built.Unbuilt.{Unbuilt}
 use Rattle.mz_run.specs.Built.{is_built_space, is_built_line, unbuilt_line, IsBuilt, HasUnbuilt}

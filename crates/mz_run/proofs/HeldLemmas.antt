@@ -10,8 +10,8 @@ use Rattle.mz_base.specs.Space.{Block}
 use Rattle.mz_words.specs.declared.name.Name.{Name}
 use Rattle.mz_words.specs.declared.name.Name.TheVariants.{Base, Batch, Given}
 use Rattle.mz_words.specs.Names.{name_word}
-use Rattle.mz_trace.specs.declared.answer.Answer.TheVariants as answers
-use Rattle.mz_trace.specs.declared.command.Command.TheVariants.{Malloc, Free}
+use Rattle.mz_lines.specs.declared.answer.Answer.TheVariants as answers
+use Rattle.mz_lines.specs.declared.command.Command.TheVariants.{Malloc, Free}
 use Rattle.mz_fit.specs.Names.{same_name}
 use Rattle.mz_fit.specs.Records.{call}
 use Rattle.mz_fit.specs.Standing.{Holding, Caller, Standing, default_zone, first_standing, caller_at, zone_number, held_at, is_held, received, delivered}

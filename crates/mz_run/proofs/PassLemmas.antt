@@ -4,11 +4,11 @@ use Rattle.std.specs.Prelude.{◌==◌, option_map, cond}
 use Rattle.std.specs.List.{list_all, position, position_from}
 use Rattle.std.proofs.lemmas.List.{drop_more, map-append, length-map}
 use Rattle.std.proofs.lemmas.Iterator.Adapters.{position_from-zero}
-use Rattle.mz_trace.specs.declared.command.Command.{Command}
+use Rattle.mz_lines.specs.declared.command.Command.{Command}
 use Rattle.mz_trace.specs.declared.round.Round.{Round}
-use Rattle.mz_trace.specs.declared.round.RoundLine.{RoundLine}
-use Rattle.mz_trace.specs.declared.line.Line.{Line}
-use Rattle.mz_trace.specs.declared.line.Line.TheVariants as line
+use Rattle.mz_lines.specs.declared.round_line.RoundLine.{RoundLine}
+use Rattle.mz_lines.specs.declared.line.Line.{Line}
+use Rattle.mz_lines.specs.declared.line.Line.TheVariants as line
 use Rattle.mz_trace.specs.Rounds.{call_line, calls_from, round_lines, lines_of_rounds}
 use Rattle.mz_run.specs.declared.built.Unbuilt.{Unbuilt}
 use Rattle.mz_run.specs.Built.{is_built_line}

@@ -15,7 +15,7 @@ use Rattle.mz_events.specs.History.{after_all, after_entry}
 use Rattle.mz_trace.specs.declared.run.CallRecord.{CallRecord}
 use Rattle.mz_run.specs.declared.session.Session.{Session}
 use Rattle.mz_words.specs.declared.name.Name.TheVariants.{Base}
-use Rattle.mz_trace.specs.declared.answer.Answer.TheVariants as answers
+use Rattle.mz_lines.specs.declared.answer.Answer.TheVariants as answers
 use Rattle.mz_record.specs.Moments.{state_before, duty_left, first_some}
 use Rattle.mz_record.specs.Served.{IsUndisturbed, by_magazine, by_fresh_region, null_in_range, Regional, regional_in, regional_for}
 use Rattle.mz_fit.specs.Records.{LineRecord, caller_of, call_record}

@@ -8,19 +8,19 @@ use Rattle.std.proofs.lemmas.List.Folds.{list_all-append}
 use Rattle.std.proofs.lemmas.List.Sums.{sum_by-append}
 use Rattle.mz_base.specs.Sizes.{good_size_of}
 use Rattle.mz_base.specs.Space.{Block, block_end}
-use Rattle.mz_trace.specs.declared.command.Command.{Command}
-use Rattle.mz_trace.specs.declared.command.Command.TheVariants as command
+use Rattle.mz_lines.specs.declared.command.Command.{Command}
+use Rattle.mz_lines.specs.declared.command.Command.TheVariants as command
 use Rattle.mz_trace.specs.declared.run.CallRecord.{CallRecord}
 use Rattle.mz_trace.specs.declared.run.RunRound.{RunRound}
 use Rattle.mz_trace.specs.declared.trace.Trace.{Trace}
 use Rattle.mz_words.specs.Numbers.{is_u64}
-use Rattle.mz_trace.specs.Commands.{command_fits}
-use Rattle.mz_trace.specs.Lines.{command_gives, line_fits}
+use Rattle.mz_lines.specs.Commands.{command_fits}
+use Rattle.mz_lines.specs.Lines.{command_gives, line_fits}
 use Rattle.mz_words.specs.Kinds.{word_fits}
 use Rattle.mz_trace.specs.Rounds.{call_line, round_lines, lines_of_rounds}
 use Rattle.mz_trace.specs.RunTexts.{round_of}
 use Rattle.mz_trace.specs.RunForms.{step_fits, call_record_fits, round_fits, IsRun, IsTail}
-use Rattle.mz_trace.specs.Answers.{answer_fits}
+use Rattle.mz_lines.specs.Answers.{answer_fits}
 use Rattle.mz_trace.specs.TailTexts.{listed_fits}
 use Rattle.mz_trace.specs.Texts.{IsTrace}
 use Rattle.mz_run.specs.declared.session.Session.{Session}

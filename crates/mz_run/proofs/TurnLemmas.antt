@@ -8,8 +8,8 @@ use Rattle.mz_base.specs.Space.{Block, block_at}
 use Rattle.mz_events.specs.declared.event.Event.{Event}
 use Rattle.mz_events.specs.declared.event.Event.TheVariants.{Take, New, End, Dry}
 use Rattle.mz_base.specs.Lists.{drop_block}
-use Rattle.mz_trace.specs.declared.command.Command.TheVariants.{Malloc, Free}
-use Rattle.mz_trace.specs.declared.answer.Answer.TheVariants as answers
+use Rattle.mz_lines.specs.declared.command.Command.TheVariants.{Malloc, Free}
+use Rattle.mz_lines.specs.declared.answer.Answer.TheVariants as answers
 use Rattle.mz_words.specs.declared.name.Name.{Name}
 use Rattle.mz_words.specs.declared.name.Name.TheVariants.{Base}
 use Rattle.mz_trace.specs.declared.run.Step.{Step}

@@ -15,8 +15,8 @@ use Rattle.mz_base.specs.Lists.{has_block, add_block, drop_block}
 use Rattle.mz_base.specs.Room.{any_has_room}
 use Rattle.mz_events.specs.Placement.{is_placed_in_magazine}
 use Rattle.mz_events.specs.Changes.{still_freed}
-use Rattle.mz_trace.specs.declared.command.Command.TheVariants.{Malloc, Free}
-use Rattle.mz_trace.specs.declared.answer.Answer.TheVariants as answers
+use Rattle.mz_lines.specs.declared.command.Command.TheVariants.{Malloc, Free}
+use Rattle.mz_lines.specs.declared.answer.Answer.TheVariants as answers
 use Rattle.mz_words.specs.declared.name.Name.{Name}
 use Rattle.mz_words.specs.declared.name.Name.TheVariants.{Base}
 use Rattle.mz_words.specs.Names.{name_word}

@@ -4,10 +4,11 @@ use Rattle.std.specs.Fmt.{decimal}
 use Rattle.std.specs.Io.KnownBytes.{Consumes, IsAtEnd}
 use Rattle.mz_io.specs.Count.{Rose}
 use Rattle.mz_io.specs.Stream.{Takes}
-use Rattle.mz_trace.specs.declared.fault.Why.{Why}
+use Rattle.mz_lines.specs.declared.why.Why.{Why}
 use Rattle.mz_trace.specs.declared.run.Run.{Run}
 use Rattle.mz_trace.specs.declared.trace.Trace.{Trace}
-use Rattle.mz_trace.specs.Faults.{bad_line_of, why_number}
+use Rattle.mz_trace.specs.Faults.{bad_line_of}
+use Rattle.mz_lines.specs.Whys.{why_number}
 use Rattle.mz_trace.specs.RunForms.{IsRunText}
 use Rattle.mz_trace.specs.Texts.{IsTraceText, HasTrace}
 use Rattle.mz_run.specs.declared.status.Status.{Status}

@@ -3,7 +3,7 @@
 ghost use Rattle.std.specs.Prelude.{◌≡◌, ◌+◌, ◌<◌, ◌^◌, ℕ, IsTrue, length, map};
 ghost use Rattle.mz_run.specs.Built.{is_built_space, is_built_command, unbuilt_line};
 ghost use Rattle.mz_run.specs.Passing.{passed};
-ghost use Rattle.mz_trace.specs.declared.line.Line.TheVariants as trace_line;
+ghost use Rattle.mz_lines.specs.declared.line.Line.TheVariants as trace_line;
 ghost use Rattle.mz_trace.specs.Rounds.{call_line, calls_from, round_lines, lines_of_rounds};
 ghost use Rattle.mz_trace.specs.Texts.{lines_of};
 

@@ -5,7 +5,7 @@ use Rattle.std.proofs.lemmas.Bool.{and_from, eq-eqb, lt-ltb}
 use Rattle.mz_base.specs.Limits.{IsWithinLimits}
 use Rattle.mz_base.specs.declared.profile.Profile.{Profile}
 use Rattle.mz_words.specs.Numbers.{◌>>=◌}
-use Rattle.mz_trace.specs.declared.answer.Answer.TheVariants.{Done}
+use Rattle.mz_lines.specs.declared.answer.Answer.TheVariants.{Done}
 use Rattle.mz_trace.specs.declared.run.StartRecord.{StartRecord}
 use Rattle.mz_trace.specs.declared.run.CallRecord.{CallRecord}
 use Rattle.mz_trace.specs.declared.run.Run.{Run}

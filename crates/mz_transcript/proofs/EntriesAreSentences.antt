@@ -15,12 +15,12 @@ use Rattle.mz_words.specs.Table.{form_among, form_word, kinds_of}
 use Rattle.mz_words.specs.Sentences.{sentence, sentence_words}
 use Rattle.mz_events.specs.declared.event.Event.{Event}
 use Rattle.mz_events.specs.declared.event.Event.TheVariants as event
-use Rattle.mz_trace.specs.declared.answer.Answer.{Answer}
-use Rattle.mz_trace.specs.declared.answer.Answer.TheVariants as answer
+use Rattle.mz_lines.specs.declared.answer.Answer.{Answer}
+use Rattle.mz_lines.specs.declared.answer.Answer.TheVariants as answer
 use Rattle.mz_trace.specs.declared.run.Step.{Step}
 use Rattle.mz_trace.specs.declared.tail.Listed.{Listed}
-use Rattle.mz_trace.specs.Events.{event_sentence, event_fits}
-use Rattle.mz_trace.specs.Answers.{answer_sentence, answer_words, answer_fits}
+use Rattle.mz_lines.specs.Events.{event_sentence, event_fits}
+use Rattle.mz_lines.specs.Answers.{answer_sentence, answer_words, answer_fits}
 use Rattle.mz_trace.specs.TailTexts.{listed_sentence, listed_words, listed_fits}
 use Rattle.mz_trace.specs.RunTexts.{step_words}
 use Rattle.mz_trace.specs.RunForms.{step_fits}

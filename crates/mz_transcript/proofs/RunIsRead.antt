@@ -7,8 +7,8 @@ use Rattle.std.proofs.lemmas.List.{append_assoc, append-nil}
 use Rattle.std.proofs.lemmas.List.Sums.{sum_by-cons}
 use Rattle.std.proofs.lemmas.Slice.Eq.{bytes_eq-Decides}
 use Rattle.mz_words.specs.Numbers.{is_u64, ◌>>=◌}
-use Rattle.mz_trace.specs.declared.answer.Answer.{Answer}
-use Rattle.mz_trace.specs.declared.command.Command.{Command}
+use Rattle.mz_lines.specs.declared.answer.Answer.{Answer}
+use Rattle.mz_lines.specs.declared.command.Command.{Command}
 use Rattle.mz_trace.specs.declared.run.Step.{Step}
 use Rattle.mz_trace.specs.declared.run.StartRecord.{StartRecord}
 use Rattle.mz_trace.specs.declared.run.CallRecord.{CallRecord}
@@ -17,14 +17,14 @@ use Rattle.mz_trace.specs.declared.run.Run.{Run}
 use Rattle.mz_trace.specs.declared.tail.Listed.{Listed}
 use Rattle.mz_trace.specs.declared.tail.Statistics.{Statistics}
 use Rattle.mz_trace.specs.declared.tail.Figures.{Figures}
-use Rattle.mz_trace.specs.Lines.{given_by, command_gives}
+use Rattle.mz_lines.specs.Lines.{given_by, command_gives}
 use Rattle.mz_trace.specs.Given.{has_name, with_name}
-use Rattle.mz_trace.specs.Commands.{command_fits}
-use Rattle.mz_trace.specs.RoundLines.{start_fits}
-use Rattle.mz_trace.specs.Answers.{answer_fits}
+use Rattle.mz_lines.specs.Commands.{command_fits}
+use Rattle.mz_lines.specs.RoundLines.{start_fits}
+use Rattle.mz_lines.specs.Answers.{answer_fits}
 use Rattle.mz_trace.specs.RunTexts.{step_words, outcome_lines, start_record_lines, call_record_lines, section_lines, sections_from, run_round_lines, run_lines}
 use Rattle.mz_trace.specs.RunForms.{step_fits, start_record_fits, call_record_fits, round_fits, IsRun, IsTail}
-use Rattle.mz_trace.specs.Spaces.{space_words}
+use Rattle.mz_lines.specs.Spaces.{space_words}
 use Rattle.mz_trace.specs.TailTexts.{listed_words, listed_fits, statistics_lines, statistics_fit, tail_lines}
 use Rattle.mz_transcript.specs.declared.line.Counter.TheVariants.{BlocksInUse, SizeInUse, MaxSizeInUse, SizeAllocated}
 use Rattle.mz_transcript.specs.declared.line.RunLine.{RunLine}

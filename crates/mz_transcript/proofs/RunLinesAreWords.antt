@@ -8,18 +8,18 @@ use Rattle.mz_base.specs.declared.profile.Profile.{Profile}
 use Rattle.mz_base.specs.Limits.{IsWithinLimits}
 use Rattle.mz_words.specs.Numbers.{is_u64, are_digits, number_of, ◌>>=◌}
 use Rattle.mz_words.specs.Lines.{is_visible_word, are_visible}
-use Rattle.mz_trace.specs.declared.answer.Answer.{Answer}
-use Rattle.mz_trace.specs.declared.command.Command.{Command}
-use Rattle.mz_trace.specs.declared.command.Command.TheVariants as command
-use Rattle.mz_trace.specs.declared.round.RoundLine.{RoundLine}
-use Rattle.mz_trace.specs.declared.round.RoundLine.TheVariants as at
+use Rattle.mz_lines.specs.declared.answer.Answer.{Answer}
+use Rattle.mz_lines.specs.declared.command.Command.{Command}
+use Rattle.mz_lines.specs.declared.command.Command.TheVariants as command
+use Rattle.mz_lines.specs.declared.round_line.RoundLine.{RoundLine}
+use Rattle.mz_lines.specs.declared.round_line.RoundLine.TheVariants as at
 use Rattle.mz_trace.specs.declared.run.Step.{Step}
 use Rattle.mz_trace.specs.declared.tail.Listed.{Listed}
-use Rattle.mz_trace.specs.Commands.{command_in, command_words, command_fits}
-use Rattle.mz_trace.specs.RoundLines.{start_in, start_words, start_fits}
-use Rattle.mz_trace.specs.Spaces.{profile_in, space_words}
-use Rattle.mz_trace.specs.Events.{event_words}
-use Rattle.mz_trace.specs.Answers.{answer_words, answer_fits}
+use Rattle.mz_lines.specs.Commands.{command_in, command_words, command_fits}
+use Rattle.mz_lines.specs.RoundLines.{start_in, start_words, start_fits}
+use Rattle.mz_lines.specs.Spaces.{profile_in, space_words}
+use Rattle.mz_lines.specs.Events.{event_words}
+use Rattle.mz_lines.specs.Answers.{answer_words, answer_fits}
 use Rattle.mz_trace.specs.TailTexts.{listed_words, listed_fits}
 use Rattle.mz_trace.specs.RunTexts.{step_words}
 use Rattle.mz_trace.specs.RunForms.{step_fits}

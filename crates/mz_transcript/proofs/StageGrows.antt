@@ -12,18 +12,18 @@ use Rattle.std.proofs.lemmas.List.Concat.{flat_map-append}
 use Rattle.std.proofs.lemmas.List.Sums.{sum_by-append}
 use Rattle.mz_base.specs.Limits.{IsWithinLimits}
 use Rattle.mz_words.specs.Numbers.{is_u64, ◌>>=◌}
-use Rattle.mz_trace.specs.declared.command.Command.{Command}
-use Rattle.mz_trace.specs.declared.command.Command.TheVariants.{Give}
+use Rattle.mz_lines.specs.declared.command.Command.{Command}
+use Rattle.mz_lines.specs.declared.command.Command.TheVariants.{Give}
 use Rattle.mz_trace.specs.declared.run.StartRecord.{StartRecord}
 use Rattle.mz_trace.specs.declared.run.CallRecord.{CallRecord}
 use Rattle.mz_trace.specs.declared.run.RunRound.{RunRound}
 use Rattle.mz_trace.specs.declared.run.Run.{Run}
 use Rattle.mz_trace.specs.declared.tail.Listed.{Listed}
-use Rattle.mz_trace.specs.Commands.{command_words, command_fits}
-use Rattle.mz_trace.specs.RoundLines.{start_words, start_fits}
-use Rattle.mz_trace.specs.Lines.{given_by, command_gives}
+use Rattle.mz_lines.specs.Commands.{command_words, command_fits}
+use Rattle.mz_lines.specs.RoundLines.{start_words, start_fits}
+use Rattle.mz_lines.specs.Lines.{given_by, command_gives}
 use Rattle.mz_trace.specs.Given.{has_name, with_name}
-use Rattle.mz_trace.specs.Spaces.{space_words}
+use Rattle.mz_lines.specs.Spaces.{space_words}
 use Rattle.mz_trace.specs.RunTexts.{step_words, start_record_lines, call_record_lines, section_lines, sections_from, run_round_lines, run_lines}
 use Rattle.mz_trace.specs.RunForms.{step_fits, start_record_fits, call_record_fits, round_fits, IsRun}
 use Rattle.mz_trace.specs.TailTexts.{listed_words, listed_fits, statistics_lines, statistics_fit}

@@ -9,9 +9,9 @@ use Rattle.mz_transcript.specs.declared.line.RunLine.TheVariants as line
 use Rattle.mz_transcript.specs.declared.line.Due.{Due}
 use Rattle.mz_transcript.specs.declared.line.Due.TheVariants as due
 use Rattle.mz_words.specs.Numbers.{number_of, ◌>>=◌}
-use Rattle.mz_trace.specs.Commands.{command_in}
-use Rattle.mz_trace.specs.RoundLines.{start_in}
-use Rattle.mz_trace.specs.Spaces.{profile_in}
+use Rattle.mz_lines.specs.Commands.{command_in}
+use Rattle.mz_lines.specs.RoundLines.{start_in}
+use Rattle.mz_lines.specs.Spaces.{profile_in}
 use Rattle.mz_transcript.specs.Entries.{step_in}
 use Rattle.mz_transcript.specs.Outcomes.{answer_in}
 use Rattle.mz_transcript.specs.Listings.{listed_in}

@@ -5,8 +5,8 @@ use Rattle.mz_base.specs.declared.profile.Profile.{Profile}
 use Rattle.mz_words.specs.Numbers.{◌>>=◌}
 use Rattle.mz_words.specs.Lines.{Cut, cuts, words_of, is_short}
 use Rattle.mz_trace.specs.declared.round.TheConstants.{MOST_ROUNDS}
-use Rattle.mz_trace.specs.declared.command.Command.{Command}
-use Rattle.mz_trace.specs.declared.round.RoundLine.{RoundLine}
+use Rattle.mz_lines.specs.declared.command.Command.{Command}
+use Rattle.mz_lines.specs.declared.round_line.RoundLine.{RoundLine}
 use Rattle.mz_trace.specs.declared.run.Step.{Step}
 use Rattle.mz_trace.specs.declared.run.StartRecord.{StartRecord}
 use Rattle.mz_trace.specs.declared.run.CallRecord.{CallRecord}
@@ -14,7 +14,7 @@ use Rattle.mz_trace.specs.declared.run.RunRound.{RunRound}
 use Rattle.mz_trace.specs.declared.run.Run.{Run}
 use Rattle.mz_trace.specs.declared.tail.Listed.{Listed}
 use Rattle.mz_trace.specs.declared.tail.Figures.{Figures}
-use Rattle.mz_trace.specs.Lines.{given_by}
+use Rattle.mz_lines.specs.Lines.{given_by}
 use Rattle.mz_trace.specs.Given.{has_name, with_name}
 use Rattle.mz_transcript.specs.declared.fault.RunFault.{RunFault}
 use Rattle.mz_transcript.specs.declared.fault.RunFault.TheVariants as fault

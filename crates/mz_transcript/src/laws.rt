@@ -7,7 +7,7 @@ ghost use Rattle.mz_trace.specs.declared.run.Run.{Run};
 ghost use Rattle.mz_trace.specs.declared.tail.Figures.{Figures};
 ghost use Rattle.mz_transcript.specs.RunFaults.{IsFirstBadLine};
 
-use mz_trace::laws::line_laws;
+use mz_lines::laws::line_laws;
 use mz_words::laws::word_laws;
 
 /// Bytes are the text of one run with its listing and statistics at most: what is printed fixes the run.

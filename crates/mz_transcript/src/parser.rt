@@ -8,7 +8,7 @@ ghost use Rattle.mz_transcript.specs.Stages.{FaultIs, good, reading_of};
 
 use crate::fault::RunFault;
 use crate::stage::Stage;
-use mz_trace::laws::line_laws;
+use mz_lines::laws::line_laws;
 use mz_trace::{Figures, Run, Tail};
 use mz_words::laws::word_laws;
 use mz_words::next_line;

@@ -2,9 +2,9 @@
 //! the part of it that is wrong. The runs stand in `specs/RunsRows.antt`.
 
 ghost use Rattle.std.specs.Prelude.{◌≡◌, ◌∷◌, [], ◌++◌, true, false, codes};
-ghost use Rattle.mz_trace.specs.declared.answer.Answer.TheVariants as answers;
+ghost use Rattle.mz_lines.specs.declared.answer.Answer.TheVariants as answers;
 ghost use Rattle.mz_events.specs.declared.event.Event.TheVariants as event;
-ghost use Rattle.mz_trace.specs.declared.command.Command.TheVariants.{Calloc};
+ghost use Rattle.mz_lines.specs.declared.command.Command.TheVariants.{Calloc};
 ghost use Rattle.mz_base.specs.Space.{block_at};
 ghost use Rattle.mz_fit.specs.Tail.{tail_of};
 ghost use Rattle.mz_fit.specs.Tasks.{is_alignment, is_wrong_size, refused, serving, request_of};

@@ -2,8 +2,8 @@
 //! record and the part of it that is wrong. The runs stand in `specs/RunsZones.antt`.
 
 ghost use Rattle.std.specs.Prelude.{◌≡◌, ◌∷◌, []};
-ghost use Rattle.mz_trace.specs.declared.answer.Answer.TheVariants as answers;
-ghost use Rattle.mz_trace.specs.declared.command.Command.TheVariants.{Free};
+ghost use Rattle.mz_lines.specs.declared.answer.Answer.TheVariants as answers;
+ghost use Rattle.mz_lines.specs.declared.command.Command.TheVariants.{Free};
 ghost use Rattle.mz_events.specs.History.{IsLawfulHistory};
 ghost use Rattle.mz_fit.specs.Records.{entries_of};
 ghost use Rattle.mz_fit.specs.Tail.{tail_of};

@@ -1,5 +1,5 @@
 use Rattle.std.proofs.Common.{◌≡◌, ◌<◌, ◌+◌, ◌^◌, ℕ, length, map, drop}
-use Rattle.mz_trace.specs.declared.line.Line.TheVariants as line
+use Rattle.mz_lines.specs.declared.line.Line.TheVariants as line
 use Rattle.mz_run.specs.Passing.{passed}
 use Rattle.mz_run.proofs.built.pass_commands.Given as goal
 

@@ -1,7 +1,7 @@
 use Rattle.std.proofs.Common.{◌∙◌, sym, ap, arith, map}
 use Rattle.std.proofs.lemmas.List.{length-map}
 use Rattle.std.proofs.lemmas.Result.{err_from_is_err_and}
-use Rattle.mz_trace.specs.declared.line.Line.TheVariants as line
+use Rattle.mz_lines.specs.declared.line.Line.TheVariants as line
 use Rattle.mz_run.specs.Passing.{passed}
 use Rattle.mz_run.proofs.PassLemmas.{passed_count, lists_count, lists_passed, lists_stopped}
 use Rattle.mz_run.proofs.built.pass_lists.Goals as goal

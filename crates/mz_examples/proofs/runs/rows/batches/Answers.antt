@@ -7,7 +7,7 @@ use Rattle.mz_examples.specs.Examples.{profile_of, entry_of, magazine}
 use Rattle.mz_events.specs.declared.entry.Entry.{Entry}
 use Rattle.mz_record.specs.Served.{Request}
 use Rattle.mz_examples.specs.RunsRows.{first_block, new_at, end_at, batch, three_served, three_dropped}
-use Rattle.mz_trace.specs.declared.answer.Answer.TheVariants as answers
+use Rattle.mz_lines.specs.declared.answer.Answer.TheVariants as answers
 use Rattle.mz_examples.proofs.RunTests.{no_null, nothing_dropped, serves, all_served, dropped_alone}
 use Rattle.mz_events.specs.State.{look_up, write}
 use Rattle.mz_base.specs.Lists.{insert_by}

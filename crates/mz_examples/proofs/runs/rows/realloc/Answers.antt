@@ -6,7 +6,7 @@ use Rattle.mz_record.specs.Resized as size
 use Rattle.mz_fit.specs.Records.{entries_of}
 use Rattle.mz_examples.specs.Examples.{profile_of, magazine}
 use Rattle.mz_examples.specs.RunsRows.{first_block, new_at, end_at, row_realloc, resized_once, moves_without_need}
-use Rattle.mz_trace.specs.declared.answer.Answer.TheVariants as answers
+use Rattle.mz_lines.specs.declared.answer.Answer.TheVariants as answers
 use Rattle.mz_examples.proofs.ResizedTests.{ends_then_moves, no_end_then_stays, stays_with_room}
 use Rattle.mz_examples.proofs.RunTests.{serves}
 use Rattle.mz_events.specs.State.{look_up, write}

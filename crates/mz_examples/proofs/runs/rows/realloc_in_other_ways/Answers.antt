@@ -5,7 +5,7 @@ use Rattle.mz_record.specs.Served as way
 use Rattle.mz_record.specs.Resized as size
 use Rattle.mz_fit.specs.Records.{entries_of}
 use Rattle.mz_events.specs.declared.event.Event.TheVariants as event
-use Rattle.mz_trace.specs.declared.answer.Answer.TheVariants as answers
+use Rattle.mz_lines.specs.declared.answer.Answer.TheVariants as answers
 use Rattle.mz_examples.specs.Examples.{profile_of, entry_of, magazine}
 use Rattle.mz_examples.specs.RunsRows.{first_block, renamed, not_moved, no_small_region}
 use Rattle.mz_examples.proofs.UndisturbedTest.{undisturbed_by_test}

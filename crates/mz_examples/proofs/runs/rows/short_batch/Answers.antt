@@ -5,7 +5,7 @@ use Rattle.mz_fit.specs.Records.{entries_of}
 use Rattle.mz_events.specs.declared.event.Event.TheVariants as event
 use Rattle.mz_examples.specs.Examples.{profile_of, entry_of, large}
 use Rattle.mz_examples.specs.RunsRows.{one_served, none_left, batch_in_4_pages}
-use Rattle.mz_trace.specs.declared.answer.Answer.TheVariants as answers
+use Rattle.mz_lines.specs.declared.answer.Answer.TheVariants as answers
 use Rattle.mz_examples.proofs.UndisturbedTest.{undisturbed_by_test}
 use Rattle.mz_examples.proofs.RunTests.{serves}
 use Rattle.mz_events.specs.State.{look_up, write}

@@ -4,8 +4,8 @@ use Rattle.mz_fit.specs.Records.{entries_of}
 use Rattle.mz_examples.specs.Examples.{magazine}
 use Rattle.mz_examples.specs.RunsRows.{name_a, first_block}
 use Rattle.mz_examples.specs.RunsZones.{two_in_128, fills_given, gives, row_giving}
-use Rattle.mz_trace.specs.declared.answer.Answer.TheVariants as answers
-use Rattle.mz_trace.specs.declared.command.Command.TheVariants.{Free}
+use Rattle.mz_lines.specs.declared.answer.Answer.TheVariants as answers
+use Rattle.mz_lines.specs.declared.command.Command.TheVariants.{Free}
 use Rattle.mz_examples.specs.Records.{record_of}
 use Rattle.mz_examples.proofs.RunTests.{serves}
 use Rattle.mz_events.specs.State.{look_up, write}

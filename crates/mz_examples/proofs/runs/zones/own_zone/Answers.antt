@@ -6,7 +6,7 @@ use Rattle.mz_events.specs.declared.place.Place.TheVariants as place
 use Rattle.mz_examples.specs.Examples.{entry_of}
 use Rattle.mz_examples.specs.Rows.{second}
 use Rattle.mz_examples.specs.RunsZones.{two_zones_in_64, freed_in_own, ends_in_second}
-use Rattle.mz_trace.specs.declared.answer.Answer.TheVariants as answers
+use Rattle.mz_lines.specs.declared.answer.Answer.TheVariants as answers
 use Rattle.mz_examples.proofs.RunTests.{serves}
 use Rattle.mz_events.specs.State.{look_up, write}
 use Rattle.mz_base.specs.Lists.{insert_by}

@@ -1,5 +1,5 @@
 -- Whatever stands of a run so far, some lines behind it end it.
-use Rattle.std.proofs.Common.{◌≡◌, ℕ, zero, suc, ◌+◌, ◌-◌, ◌<◌, ◌≤◌, ◌^◌, Bool, true, List, [], ◌∷◌, ◌++◌, length, cond, arith, refl, ap, ◌∙◌, lit<, lit≤, Option, Some, None}
+use Rattle.std.proofs.Common.{◌≡◌, ℕ, zero, suc, ◌+◌, ◌-◌, ◌<◌, ◌^◌, Bool, true, List, [], ◌∷◌, ◌++◌, length, cond, arith, refl, ap, ◌∙◌, lit<, lit≤, Some, None}
 use Rattle.std.specs.List.{list_all}
 use Rattle.std.proofs.lemmas.Bool.{and_from, eq-eqb, lt-ltb}
 use Rattle.mz_base.specs.Limits.{IsWithinLimits}

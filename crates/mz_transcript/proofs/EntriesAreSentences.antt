@@ -1,5 +1,5 @@
 -- Events, answers and listed blocks are sentences, and entries are a ticket and an event.
-use Rattle.std.proofs.Common.{◌≡◌, ℕ, ◌≤◌, ◌+◌, Bool, true, map, List, [], ◌∷◌, length, arith, refl, sym, ap, ◌∙◌, subst, Option, Some, None}
+use Rattle.std.proofs.Common.{◌≡◌, ℕ, ◌≤◌, true, map, List, [], ◌∷◌, length, arith, refl, sym, ap, ◌∙◌, subst, Some}
 use Rattle.std.specs.Fmt.{decimal}
 use Rattle.std.proofs.lemmas.Bool.{and_parts, and_from}
 use Rattle.mz_words.specs.declared.kind.Word.{Word}
@@ -12,7 +12,7 @@ use Rattle.mz_words.specs.Numbers.{is_u64, number_of}
 use Rattle.mz_words.specs.Lines.{are_visible}
 use Rattle.mz_words.specs.Kinds.{kind_of}
 use Rattle.mz_words.specs.Table.{form_among, form_word, kinds_of}
-use Rattle.mz_words.specs.Sentences.{sentence, sentence_words}
+use Rattle.mz_words.specs.Sentences.{sentence}
 use Rattle.mz_events.specs.declared.event.Event.{Event}
 use Rattle.mz_events.specs.declared.event.Event.TheVariants as event
 use Rattle.mz_lines.specs.declared.answer.Answer.{Answer}

@@ -1,5 +1,5 @@
 -- The lines of a run and of its tail are read as that run and that tail.
-use Rattle.std.proofs.Common.{◌≡◌, ℕ, ◌+◌, ◌<◌, ◌≤◌, ◌^◌, Bool, true, false, List, [], ◌∷◌, ◌++◌, map, length, eqb, ltb, leb, cond, arith, refl, sym, ap, subst, ◌∙◌, lit<, ◌⊎◌, inl, inr, Option, Some, None, codes}
+use Rattle.std.proofs.Common.{◌≡◌, ℕ, ◌+◌, ◌<◌, ◌≤◌, ◌^◌, Bool, true, false, List, [], ◌∷◌, ◌++◌, map, length, eqb, leb, cond, arith, refl, sym, ap, subst, ◌∙◌, lit<, ◌⊎◌, inl, inr, Option, Some, None, codes}
 use Rattle.std.specs.Prelude.{◌&&◌, count_by}
 use Rattle.std.specs.List.{list_all, flat_map}
 use Rattle.std.proofs.lemmas.Bool.{and_parts, and_from, eq-eqb, eqb-true, lt-ltb, leb-true, false_from_ne_true}
@@ -22,7 +22,7 @@ use Rattle.mz_trace.specs.Given.{has_name, with_name}
 use Rattle.mz_lines.specs.Commands.{command_fits}
 use Rattle.mz_lines.specs.RoundLines.{start_fits}
 use Rattle.mz_lines.specs.Answers.{answer_fits}
-use Rattle.mz_trace.specs.RunTexts.{step_words, outcome_lines, start_record_lines, call_record_lines, section_lines, sections_from, run_round_lines, run_lines}
+use Rattle.mz_trace.specs.RunTexts.{outcome_lines, start_record_lines, call_record_lines, sections_from, run_round_lines, run_lines}
 use Rattle.mz_trace.specs.RunForms.{step_fits, start_record_fits, call_record_fits, round_fits, IsRun, IsTail}
 use Rattle.mz_lines.specs.Spaces.{space_words}
 use Rattle.mz_trace.specs.TailTexts.{listed_words, listed_fits, statistics_lines, statistics_fit, tail_lines}

@@ -1,5 +1,5 @@
 -- The lines of a printed run and their words: what is written is read again where it is due, and what is read is written.
-use Rattle.std.proofs.Common.{◌≡◌, ℕ, ◌+◌, ◌<◌, ◌≤◌, ◌^◌, Bool, true, false, List, [], ◌∷◌, length, cond, leb, arith, refl, sym, ap, subst, ◌∙◌, lit≤, inl, inr, Option, Some, None, codes}
+use Rattle.std.proofs.Common.{◌≡◌, ℕ, ◌<◌, ◌≤◌, ◌^◌, Bool, true, false, List, [], ◌∷◌, length, cond, leb, arith, refl, sym, ap, subst, ◌∙◌, lit≤, inl, inr, Option, Some, codes}
 use Rattle.std.specs.Prelude.{◌&&◌}
 use Rattle.std.specs.Str.{bytes_eq}
 use Rattle.std.specs.Fmt.{decimal}
@@ -32,7 +32,7 @@ use Rattle.mz_transcript.specs.declared.line.Due.TheVariants as due
 use Rattle.mz_transcript.specs.Entries.{step_in}
 use Rattle.mz_transcript.specs.Outcomes.{answer_in}
 use Rattle.mz_transcript.specs.Listings.{listed_in}
-use Rattle.mz_transcript.specs.RunLines.{counter_word, heading_of, answer_line_in, entry_line_in, start_line_in, call_line_in, listed_line_in, statistic_in, line_in}
+use Rattle.mz_transcript.specs.RunLines.{counter_word, heading_of, answer_line_in, entry_line_in, start_line_in, call_line_in, statistic_in, line_in}
 use Rattle.mz_transcript.proofs.TextLaws.{TextLaws, bind_parts, some_same, when_parts, either_parts, same_word}
 use Rattle.mz_transcript.proofs.EntriesAreSentences.{answer_again, answer_spelled, answer_visible, answer_count, listed_again, listed_spelled, listed_visible, step_again, step_spelled, step_visible, step_count}
 

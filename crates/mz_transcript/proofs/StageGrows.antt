@@ -1,11 +1,10 @@
 -- What stands of a run so far is what was written so far, with each line that is read.
-use Rattle.std.proofs.Common.{◌≡◌, ℕ, ◌+◌, ◌<◌, ◌≤◌, Bool, true, false, List, [], ◌∷◌, ◌++◌, map, length, eqb, ltb, leb, cond, arith, refl, sym, ap, subst, ◌∙◌, inl, inr, Option, Some, None, codes}
+use Rattle.std.proofs.Common.{◌≡◌, ℕ, ◌+◌, ◌<◌, ◌≤◌, Bool, true, false, List, [], ◌∷◌, ◌++◌, map, length, eqb, ltb, cond, arith, refl, sym, ap, subst, ◌∙◌, Option, Some, None, codes}
 use Rattle.std.specs.Prelude.{◌&&◌, ◌||◌, count_by}
 use Rattle.std.specs.List.{list_all, flat_map}
 use Rattle.std.specs.Fmt.{decimal}
 use Rattle.std.specs.Str.{bytes_eq}
-use Rattle.std.proofs.lemmas.Bool.{cases_Bool, and_parts, and_from, eq-eqb, eqb-true, ltb-true, leb-false}
-use Rattle.std.proofs.lemmas.Grind.{common_steps}
+use Rattle.std.proofs.lemmas.Bool.{and_parts, and_from, eq-eqb, eqb-true, ltb-true, leb-false}
 use Rattle.std.proofs.lemmas.List.{append_assoc, append-nil, map-append, length-append}
 use Rattle.std.proofs.lemmas.List.Folds.{list_all-append}
 use Rattle.std.proofs.lemmas.List.Concat.{flat_map-append}
@@ -24,10 +23,9 @@ use Rattle.mz_lines.specs.RoundLines.{start_words, start_fits}
 use Rattle.mz_lines.specs.Lines.{given_by, command_gives}
 use Rattle.mz_trace.specs.Given.{has_name, with_name}
 use Rattle.mz_lines.specs.Spaces.{space_words}
-use Rattle.mz_trace.specs.RunTexts.{step_words, start_record_lines, call_record_lines, section_lines, sections_from, run_round_lines, run_lines}
+use Rattle.mz_trace.specs.RunTexts.{step_words, start_record_lines, section_lines, sections_from, run_round_lines, run_lines}
 use Rattle.mz_trace.specs.RunForms.{step_fits, start_record_fits, call_record_fits, round_fits, IsRun}
 use Rattle.mz_trace.specs.TailTexts.{listed_words, listed_fits, statistics_lines, statistics_fit}
-use Rattle.mz_transcript.specs.declared.line.Counter.{Counter}
 use Rattle.mz_transcript.specs.declared.line.Counter.TheVariants.{BlocksInUse, SizeInUse, MaxSizeInUse, SizeAllocated}
 use Rattle.mz_transcript.specs.declared.line.RunLine.{RunLine}
 use Rattle.mz_transcript.specs.declared.line.RunLine.TheVariants as line
@@ -38,8 +36,8 @@ use Rattle.mz_transcript.specs.declared.stage.Known.{Known}
 use Rattle.mz_transcript.specs.declared.stage.Known.TheVariants as known
 use Rattle.mz_transcript.specs.declared.stage.Stage.{Stage}
 use Rattle.mz_transcript.specs.declared.stage.Stage.TheVariants.{First, Second, Rounds, Tail}
-use Rattle.mz_transcript.specs.Stages.{due_in, due_of, due_statistic, is_full, opened, ended, with_round, closed, with_given, book_named, next_section, in_section, rounds_with, known_with, listed_with, in_tail, with_line}
-use Rattle.mz_transcript.proofs.TextLaws.{TextLaws, and_three, same_word}
+use Rattle.mz_transcript.specs.Stages.{due_in, due_of, due_statistic, is_full, opened, ended, with_round, with_given, book_named, in_section, rounds_with, in_tail, with_line}
+use Rattle.mz_transcript.proofs.TextLaws.{TextLaws, same_word}
 use Rattle.mz_transcript.proofs.RunLinesAreWords.{line_words, LineFits, callers_at}
 use Rattle.mz_transcript.proofs.SectionsGrow.{sections_from-append_one}
 

@@ -1,6 +1,6 @@
 -- What reading a whole text comes to is the run that it is the text of, or the first bad line.
-use Rattle.std.proofs.Common.{◌≡◌, ℕ, suc, ◌+◌, ◌<◌, ◌≤◌, ◌^◌, Bool, true, false, List, [], ◌∷◌, ◌++◌, map, length, take, drop, cond, arith, refl, sym, ap, subst, ◌∙◌, lit<, inl, inr, Option, Some, None}
-use Rattle.std.specs.Prelude.{Result, Ok, Err, MatchResult, IfOk, IfErr, ◌&&◌}
+use Rattle.std.proofs.Common.{◌≡◌, ℕ, suc, ◌+◌, ◌<◌, ◌≤◌, ◌^◌, Bool, true, List, [], ◌∷◌, ◌++◌, map, length, take, drop, cond, arith, refl, sym, ap, subst, ◌∙◌, lit<, Option, Some, None}
+use Rattle.std.specs.Prelude.{Result, Ok, Err, MatchResult, IfOk, IfErr}
 use Rattle.std.specs.List.{list_all, flat_map, join_with_byte}
 use Rattle.std.proofs.lemmas.Bool.{and_parts, and_from}
 use Rattle.std.proofs.lemmas.List.{append_assoc, append-nil, map-append, length-append, length-map, take-append-le, take-append-drop}
@@ -10,7 +10,7 @@ use Rattle.mz_words.specs.Lines.{Cut, cuts, words_of, is_short, line_of, line_te
 use Rattle.mz_trace.specs.declared.run.Run.{Run}
 use Rattle.mz_trace.specs.declared.tail.Figures.{Figures}
 use Rattle.mz_trace.specs.RunTexts.{run_lines, run_text}
-use Rattle.mz_trace.specs.RunForms.{IsRun, IsTail, IsRunText}
+use Rattle.mz_trace.specs.RunForms.{IsRunText}
 use Rattle.mz_trace.specs.TailTexts.{tail_lines, tail_text}
 use Rattle.mz_transcript.specs.declared.fault.RunFault.{RunFault}
 use Rattle.mz_transcript.specs.declared.fault.RunFault.TheVariants as fault
@@ -20,13 +20,13 @@ use Rattle.mz_transcript.specs.declared.line.Due.TheVariants as due
 use Rattle.mz_transcript.specs.declared.stage.Part.TheVariants.{Section}
 use Rattle.mz_transcript.specs.declared.stage.Known.TheVariants as known
 use Rattle.mz_transcript.specs.declared.stage.Stage.{Stage}
-use Rattle.mz_transcript.specs.declared.stage.Stage.TheVariants.{First, Second, Rounds, Tail}
+use Rattle.mz_transcript.specs.declared.stage.Stage.TheVariants.{First, Rounds, Tail}
 use Rattle.mz_transcript.specs.RunLines.{line_in}
 use Rattle.mz_transcript.specs.Stages.{due_of, with_line, words_read, stage_read, RunAndTail, Outcome, good, bad, finished, after_line, reading, reading_of, FaultIs}
 use Rattle.mz_transcript.specs.RunFaults.{BeginsRun, IsFirstBadLine, HasNoRun, TellsFirstBadLine}
 use Rattle.mz_transcript.proofs.TextLaws.{TextLaws, bind_parts, some_same, when_parts}
 use Rattle.mz_transcript.proofs.CutsAreText.{lines_are_text, text_is_cut, ended_is_line, plain_is_short}
-use Rattle.mz_transcript.proofs.RunLinesAreWords.{line_words, callers_at, read_is_written, are_plain, line_plain}
+use Rattle.mz_transcript.proofs.RunLinesAreWords.{callers_at, read_is_written, are_plain, line_plain}
 use Rattle.mz_transcript.proofs.StageGrows.{Text, Valid, written, Sound, line_sound}
 use Rattle.mz_transcript.proofs.RunIsRead.{reads_to, then_reads, run_read}
 use Rattle.mz_transcript.proofs.AnyStageCanEnd.{any_stage_can_end}

@@ -1,6 +1,6 @@
 -- What the lines of a printed run come to, one after the other, and at which line reading stops. This goes as the code goes;
 -- that the line is the first bad one is proved.
-use Rattle.std.specs.Prelude.{ℕ, ◌≡◌, ◌+◌, ◌==◌, ◌&&◌, not, Bool, nat_lt, nat_le, List, [], ◌∷◌, ◌++◌, length, Option, None, Some, if◌then◌else◌}
+use Rattle.std.specs.Prelude.{ℕ, ◌≡◌, ◌+◌, ◌==◌, ◌&&◌, Bool, nat_lt, nat_le, List, [], ◌∷◌, ◌++◌, length, Option, None, Some, if◌then◌else◌}
 use Rattle.mz_base.specs.declared.profile.Profile.{Profile}
 use Rattle.mz_words.specs.Numbers.{◌>>=◌}
 use Rattle.mz_words.specs.Lines.{Cut, cuts, words_of, is_short}

@@ -1,8 +1,8 @@
 //! What stands of a printed run so far, and what the next line adds.
 
 ghost use Rattle.std.specs.Prelude.{◌≡◌, IfOk, MatchResult};
-ghost use Rattle.mz_words.specs.Lines.{cut_of};
-ghost use Rattle.mz_transcript.specs.Stages.{blank_book, call_closed, call_told, asked, closed, due_in, due_of, due_statistic, ended, finished, in_section, in_starts, in_tail, is_full, known_with, next_section, opened, outside, rounds_with, start_told, with_line, stage_read, good, FaultIs};
+ghost use Rattle.mz_words.specs.Lines.{cut_of, words_of};
+ghost use Rattle.mz_transcript.specs.Stages.{blank_book, call_closed, call_told, asked, closed, due_in, due_of, due_statistic, ended, finished, in_section, in_starts, in_tail, is_full, known_with, next_section, opened, outside, rounds_with, start_told, with_line, words_read, stage_read, good, FaultIs};
 
 use crate::fault::RunFault;
 use crate::line::{Counter, Due, RunLine, read_text};
@@ -90,12 +90,22 @@ impl Stage {
     pub fn read(self, alloc: Global, line: &RawLine<'_>) -> Result<Option<Stage>, AllocError>
         ensures { IfOk result (λ s. s ≡ stage_read self (cut_of line.now)) }
     {
-        if !is_short(line) {
-            return Ok(None);
+        if is_short(line) {
+            self.read_words(alloc, line.text)
+        } else {
+            Ok(None)
         }
-        match read_text(alloc, self.due(), line.text)? {
-            None => Ok(None),
-            Some(line) => self.with_line(alloc, line),
+    }
+
+    /// Reads a line of this text.
+    fn read_words(self, alloc: Global, text: &[u8]) -> Result<Option<Stage>, AllocError>
+        ensures { IfOk result (λ s. s ≡ words_read self (words_of text.now)) }
+    {
+        let due = self.due();
+        match read_text(alloc, due, text) {
+            Err(e) => Err(e),
+            Ok(None) => Ok(None),
+            Ok(Some(line)) => self.with_line(alloc, line),
         }
     }
 

@@ -119,7 +119,7 @@ pub fn write_command(out: &mut String, command: &Command) -> Result<(), AllocErr
         Command::Calloc { name, n, m } => write_two(out, Form::Calloc, name, n, m),
         Command::Valloc { name, n } => write_sized(out, Form::Valloc, name, n),
         Command::Memalign { name, al, n } => write_two(out, Form::Memalign, name, al, n),
-        Command::Realloc { names, n } => write_realloc(out, names.get(), n),
+        Command::Realloc { names, n } => write_realloc(out, &names.get(), n),
         Command::Free { name } => write_sentence(out, Form::Free, &[Word::Name(name)]),
         Command::FreeAt { name, off } => write_named(out, Form::FreeAt, name, off),
         Command::ZoneFree { zone, name } => write_zone_free(out, zone, name),
@@ -157,15 +157,16 @@ fn write_named(out: &mut String, form: Form, name: BlockName, n: u64) -> Result<
     write_sentence(out, form, &[Word::Name(name), Word::Number(n)])
 }
 
-fn write_realloc(out: &mut String, names: Names, n: u64) -> Result<(), AllocError>
-    ensures { OnOk result (string_bytes out.new ≡ string_bytes out.old ++ join_with_byte 32 (command_words (commands.Realloc names n))) }
+fn write_realloc(out: &mut String, names: &Names, n: u64) -> Result<(), AllocError>
+    ensures { OnOk result (string_bytes out.new ≡ string_bytes out.old ++ join_with_byte 32 (command_words (commands.Realloc names.now n))) }
 {
-    let words = [
-        Word::Old(old_name(names)),
-        Word::New(new_name(names)),
-        Word::Number(n),
-    ];
-    write_sentence(out, Form::Realloc, &words)
+    let old = old_name(names);
+    let new = new_name(names);
+    write_sentence(
+        out,
+        Form::Realloc,
+        &[Word::Old(old), Word::New(new), Word::Number(n)],
+    )
 }
 
 fn write_zone_free(out: &mut String, zone: ZoneName, name: BlockName) -> Result<(), AllocError>

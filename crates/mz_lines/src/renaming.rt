@@ -53,10 +53,10 @@ impl Renaming {
 }
 
 /// The name that the block of a `realloc` has.
-pub fn old_name(names: Names) -> OldName
-    ensures { result ≡ old_name names }
+pub fn old_name(names: &Names) -> OldName
+    ensures { result ≡ old_name names.now }
 {
-    match names {
+    match *names {
         Names::Fresh { .. } => OldName::new(None),
         Names::Renamed { old, .. } => OldName::new(Some(BlockName::new(old))),
         Names::KeptBatch { name } => OldName::new(Some(BlockName::new(Name::Batch(name)))),
@@ -65,10 +65,10 @@ pub fn old_name(names: Names) -> OldName
 }
 
 /// The name that it is to have.
-pub fn new_name(names: Names) -> BlockName
-    ensures { result ≡ new_name names }
+pub fn new_name(names: &Names) -> BlockName
+    ensures { result ≡ new_name names.now }
 {
-    match names {
+    match *names {
         Names::Fresh { new } => BlockName::new(Name::Base(new)),
         Names::Renamed { new, .. } => BlockName::new(Name::Base(new)),
         Names::KeptBatch { name } => BlockName::new(Name::Batch(name)),

@@ -1,6 +1,5 @@
--- What the crates below say, and the words of entries, answers and listed blocks.
+-- What the crates below say, and the words of entries and listed blocks.
 pub mod TextLaws
-pub mod ValuesAreSentences
 pub mod EntriesAreSentences
 -- Lines, their words, and the texts that they make.
 pub mod RunLinesAreWords

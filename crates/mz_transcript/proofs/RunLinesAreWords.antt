@@ -30,11 +30,11 @@ use Rattle.mz_transcript.specs.declared.line.RunLine.TheVariants as line
 use Rattle.mz_transcript.specs.declared.line.Due.{Due}
 use Rattle.mz_transcript.specs.declared.line.Due.TheVariants as due
 use Rattle.mz_transcript.specs.Entries.{step_in}
-use Rattle.mz_transcript.specs.Outcomes.{answer_in}
+use Rattle.mz_lines.specs.Answers.{answer_in}
 use Rattle.mz_transcript.specs.Listings.{listed_in}
 use Rattle.mz_transcript.specs.RunLines.{counter_word, heading_of, answer_line_in, entry_line_in, start_line_in, call_line_in, statistic_in, line_in}
 use Rattle.mz_transcript.proofs.TextLaws.{TextLaws, bind_parts, some_same, when_parts, either_parts, same_word}
-use Rattle.mz_transcript.proofs.EntriesAreSentences.{answer_again, answer_spelled, answer_visible, answer_count, listed_again, listed_spelled, listed_visible, step_again, step_spelled, step_visible, step_count}
+use Rattle.mz_transcript.proofs.EntriesAreSentences.{listed_again, listed_spelled, listed_visible, step_again, step_spelled, step_visible, step_count}
 
 abbrev pub line_words : RunLine → List (List ℕ)
 line_words line.First = codes "mzone-run" ∷ codes "1" ∷ []
@@ -103,17 +103,17 @@ entry_again laws e h =
 
 pub written_is_read : TextLaws → (d : Due) (v : RunLine) → callers_at d < 2 ^ 64 → MayStand d v → LineFits (callers_at d) v → line_in d (line_words v) ≡ Some v
 written_is_read laws due.First line.First few may h = refl
-written_is_read laws due.Space (line.Space p) few may h = ap (λ (o : Option Profile). o >>= λ q. Some (line.Space q)) (laws.lines.profile_again p h)
+written_is_read laws due.Space (line.Space p) few may h = ap (λ (o : Option Profile). o >>= λ q. Some (line.Space q)) (laws.lines.profiles.again p h)
 written_is_read laws due.Heading line.Round few may h = refl
 written_is_read laws due.Heading line.End few may h = refl
 written_is_read laws due.Start (line.Caller n) few may h = caller_again laws n h
-written_is_read laws due.Start (line.Start x) few may h = ap (λ (o : Option RoundLine). o >>= λ y. Some (line.Start y)) (laws.lines.start_again x h)
+written_is_read laws due.Start (line.Start x) few may h = ap (λ (o : Option RoundLine). o >>= λ y. Some (line.Start y)) (laws.lines.starts.again x h)
 written_is_read laws (due.Call callers) line.Round few may h = refl
 written_is_read laws (due.Call callers) line.End few may h = refl
 written_is_read laws (due.Call callers) (line.Caller n) few may h = caller_again laws n h
-written_is_read laws (due.Call callers) (line.Call k) few may h = ap (λ (o : Option Command). o >>= λ j. Some (line.Call j)) (laws.lines.command_again callers k few h)
+written_is_read laws (due.Call callers) (line.Call k) few may h = ap (λ (o : Option Command). o >>= λ j. Some (line.Call j)) (laws.lines.commands.again callers k few h)
 written_is_read laws due.Told (line.Entry e) few may h = entry_again laws e h
-written_is_read laws due.Told (line.Answer a) few may h = ap (λ (o : Option Answer). o >>= λ x. Some (line.Answer x)) (answer_again laws a h)
+written_is_read laws due.Told (line.Answer a) few may h = ap (λ (o : Option Answer). o >>= λ x. Some (line.Answer x)) (laws.lines.answers.again a h)
 written_is_read laws due.Block (line.Block b) few may h = ap (λ (o : Option Listed). o >>= λ x. Some (line.Block x)) (listed_again laws b h)
 written_is_read laws due.Block (line.Statistic BlocksInUse n) few may h = ap (λ (o : Option ℕ). o >>= λ c. Some (line.Statistic BlocksInUse c)) (laws.words.numbers.again n h)
 written_is_read laws (due.Statistic SizeInUse) (line.Statistic SizeInUse n) few may h = ap (λ (o : Option ℕ). o >>= λ c. Some (line.Statistic SizeInUse c)) (laws.words.numbers.again n h)
@@ -173,24 +173,24 @@ more_words word ts ws e = ap (λ (x : List (List ℕ)). word ∷ x) e
 
 pub read_is_written : TextLaws → (d : Due) (ws : List (List ℕ)) (v : RunLine) → line_in d ws ≡ Some v → Spells (callers_at d) ws v
 read_is_written laws due.First ws v h = first_spelled 0 ws v h
-read_is_written laws due.Space ws v h = value_spelled 0 ws (profile_in ws) line.Space v h (λ p e. laws.lines.profile_spelled ws p e)
+read_is_written laws due.Space ws v h = value_spelled 0 ws (profile_in ws) line.Space v h (λ p e. laws.lines.profiles.spelled ws p e)
 read_is_written laws due.Heading [] v h = absurd cc
 read_is_written laws due.Heading (w ∷ ws) v h = heading_spelled laws 0 w ws v h
 read_is_written laws due.Start [] v h = absurd cc
 read_is_written laws due.Start (w ∷ ws) v h =
     behind_word 0 w (codes ">") ws (start_line_in ws) (heading_of w ws) v h
-    (λ k. value_spelled 0 (codes ">" ∷ ws) (start_in 0 ws) line.Start v k (λ x e. let s = laws.lines.start_spelled ws x e in (more_words (codes ">") ws _ s.0, s.1)))
+    (λ k. value_spelled 0 (codes ">" ∷ ws) (start_in 0 ws) line.Start v k (λ x e. let s = laws.lines.starts.spelled ws x e in (more_words (codes ">") ws _ s.0, s.1)))
     (heading_spelled laws 0 w ws v)
 read_is_written laws (due.Call callers) [] v h = absurd cc
 read_is_written laws (due.Call callers) (w ∷ ws) v h =
     behind_word callers w (codes ">") ws (call_line_in callers ws) (heading_of w ws) v h
     (λ k. value_spelled callers (codes ">" ∷ ws) (command_in callers ws) line.Call v k
-    (λ x e. let s = laws.lines.command_spelled callers ws x e in (more_words (codes ">") ws _ s.0, s.1)))
+    (λ x e. let s = laws.lines.commands.spelled callers ws x e in (more_words (codes ">") ws _ s.0, s.1)))
     (heading_spelled laws callers w ws v)
 read_is_written laws due.Told [] v h = absurd cc
 read_is_written laws due.Told (w ∷ ws) v h =
     behind_word 0 w (codes "=") ws (answer_line_in ws) (entry_line_in (w ∷ ws)) v h
-    (λ k. value_spelled 0 (codes "=" ∷ ws) (answer_in ws) line.Answer v k (λ x e. let s = answer_spelled laws ws x e in (more_words (codes "=") ws _ s.0, s.1)))
+    (λ k. value_spelled 0 (codes "=" ∷ ws) (answer_in ws) line.Answer v k (λ x e. let s = laws.lines.answers.spelled ws x e in (more_words (codes "=") ws _ s.0, s.1)))
     (λ k. value_spelled 0 (w ∷ ws) (step_in (w ∷ ws)) line.Entry v k (step_spelled laws (w ∷ ws)))
 read_is_written laws due.Block [] v h = absurd cc
 read_is_written laws due.Block (w ∷ ws) v h = elim (either_parts (bytes_eq w (codes "block")) _ _ v h) [
@@ -221,13 +221,13 @@ counter_visible _ = refl
 
 pub line_plain : TextLaws → (callers : ℕ) (v : RunLine) → callers < 2 ^ 64 → LineFits callers v → are_plain (line_words v) ≡ true
 line_plain laws callers line.First few h = refl
-line_plain laws callers (line.Space p) few h = plain (space_words p) (laws.lines.profile_visible p h) (lit≤ tt)
+line_plain laws callers (line.Space p) few h = plain (space_words p) (laws.lines.profiles.visible p h) (lit≤ tt)
 line_plain laws callers line.Round few h = refl
 line_plain laws callers (line.Caller n) few h = plain (codes "caller" ∷ decimal n ∷ []) (and_from _ _ refl (and_from _ _ (laws.words.numbers.visible n h) refl)) (lit≤ tt)
 line_plain laws callers line.End few h = refl
-line_plain laws callers (line.Start x) few h = let n = start_count x in plain (codes ">" ∷ start_words x) (and_from _ _ refl (laws.lines.start_visible x h)) (omega (arith, n))
-line_plain laws callers (line.Call k) few h = let n = command_count k in plain (codes ">" ∷ command_words k) (and_from _ _ refl (laws.lines.command_visible callers k few h)) (omega (arith, n))
-line_plain laws callers (line.Entry e) few h = let n = step_count e in plain (step_words e) (step_visible laws e h) (omega (arith, n))
-line_plain laws callers (line.Answer a) few h = let n = answer_count a in plain (codes "=" ∷ answer_words a) (and_from _ _ refl (answer_visible laws a h)) (omega (arith, n))
+line_plain laws callers (line.Start x) few h = let n = start_count x in plain (codes ">" ∷ start_words x) (and_from _ _ refl (laws.lines.starts.visible x h)) (omega (arith, n))
+line_plain laws callers (line.Call k) few h = let n = command_count k in plain (codes ">" ∷ command_words k) (and_from _ _ refl (laws.lines.commands.visible callers k few h)) (omega (arith, n))
+line_plain laws callers (line.Entry e) few h = let n = step_count laws e in plain (step_words e) (step_visible laws e h) (omega (arith, n))
+line_plain laws callers (line.Answer a) few h = let n = laws.lines.few_answers a in plain (codes "=" ∷ answer_words a) (and_from _ _ refl (laws.lines.answers.visible a h)) (omega (arith, n))
 line_plain laws callers (line.Block b) few h = plain (listed_words b) (listed_visible laws b h) (lit≤ tt)
 line_plain laws callers (line.Statistic k n) few h = plain (counter_word k ∷ decimal n ∷ []) (and_from _ _ (counter_visible k) (and_from _ _ (laws.words.numbers.visible n h) refl)) (lit≤ tt)

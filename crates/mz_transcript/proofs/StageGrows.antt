@@ -326,7 +326,7 @@ apart false false h = refl
 pub one_more_name : TextLaws → (given : List (List ℕ)) (name base : List ℕ) → has_name given name ≡ false
     → cond (has_name (with_name given name) base) 1 0 ≡ cond (has_name given base) 1 0 + cond (bytes_eq name base) 1 0
 one_more_name laws given name base new =
-    ap (λ (t : Bool). cond t 1 0) (laws.lines.name_added given name base)
+    ap (λ (t : Bool). cond t 1 0) (laws.one_more_name given name base)
     ∙ apart (bytes_eq name base) (has_name given base) (λ same. subst (λ (x : List ℕ). has_name given x ≡ false) (same_word name base same) new)
 
 names_more : (given now : List (List ℕ)) (ks : List Command) (k : Command) (o : Option (List ℕ)) → given_by k ≡ o

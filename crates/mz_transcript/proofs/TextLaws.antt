@@ -1,16 +1,18 @@
 -- What the crates below say of words and lines, and what follows of tests and values one after the other.
 use Rattle.std.proofs.Common.{◌≡◌, ℕ, Bool, true, false, List, cond, refl, ◌⊎◌, inl, inr, Option, Some, None}
-use Rattle.std.specs.Prelude.{◌&&◌}
+use Rattle.std.specs.Prelude.{◌&&◌, ◌||◌}
 use Rattle.std.specs.Str.{bytes_eq}
 use Rattle.std.proofs.lemmas.Bool.{and_parts}
 use Rattle.std.proofs.lemmas.Slice.Eq.{bytes_eq-Decides}
 use Rattle.mz_words.specs.Numbers.{◌>>=◌}
 use Rattle.mz_words.specs.Laws.{WordLaws}
-use Rattle.mz_trace.specs.Laws.{LineLaws}
+use Rattle.mz_lines.specs.Laws.{LineLaws}
+use Rattle.mz_trace.specs.Given.{has_name, with_name}
 
 pub record TextLaws : Type 0 where
   pub words : WordLaws
   pub lines : LineLaws
+  pub one_more_name : (names : List (List ℕ)) (name base : List ℕ) → has_name (with_name names name) base ≡ (bytes_eq name base || has_name names base)
 
 pub and_three : (a b c : Bool) → (a && b && c) ≡ true → (a ≡ true) × (b ≡ true) × (c ≡ true)
 and_three a b c h = let out = and_parts (a && b) c h in let front = and_parts a b out.0 in (front.0, front.1, out.1)

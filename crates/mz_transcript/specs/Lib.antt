@@ -1,5 +1,4 @@
 pub mod Entries
-pub mod Outcomes
 pub mod Listings
 pub mod RunLines
 pub mod Stages

@@ -13,7 +13,7 @@ use Rattle.mz_lines.specs.Commands.{command_in}
 use Rattle.mz_lines.specs.RoundLines.{start_in}
 use Rattle.mz_lines.specs.Spaces.{profile_in}
 use Rattle.mz_transcript.specs.Entries.{step_in}
-use Rattle.mz_transcript.specs.Outcomes.{answer_in}
+use Rattle.mz_lines.specs.Answers.{answer_in}
 use Rattle.mz_transcript.specs.Listings.{listed_in}
 
 -- the word in front of each of the statistics

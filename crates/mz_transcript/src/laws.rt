@@ -8,14 +8,14 @@ ghost use Rattle.mz_trace.specs.declared.tail.Figures.{Figures};
 ghost use Rattle.mz_transcript.specs.RunFaults.{IsFirstBadLine};
 
 use mz_lines::laws::line_laws;
-use mz_words::laws::word_laws;
+use mz_trace::laws::one_more_name;
 
 /// Bytes are the text of one run with its listing and statistics at most: what is printed fixes the run.
 pub fn one_run()
     ensures { (bytes : List ℕ) (r s : Run) (t u : Figures) → IsRunText bytes r t → IsRunText bytes s u → (r ≡ s) × (t ≡ u) }
 {
-    word_laws();
     line_laws();
+    one_more_name();
 }
 
 /// Bytes have at most one first bad line, as printed runs.

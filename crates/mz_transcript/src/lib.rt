@@ -5,7 +5,7 @@
 //! their text, and then those; else it tells the first line that can't stand where it stands. Beside
 //! that it may only answer that memory is short. Printed bytes fix the run (`laws::one_run`).
 //!
-//! - `entries`, `outcomes`, `listings`: what the lines of a run have beside commands, from sentences.
+//! - `entries`, `listings`: what the lines of a run have that `mz_lines` has not, from their words.
 //! - `line`: the lines of a run, from their words, and which of them may come next.
 //! - `stage`: what stands of a run so far, and what the next line adds.
 //! - `parser`: the whole text.
@@ -18,7 +18,6 @@ pub mod fault;
 pub mod laws;
 mod line;
 mod listings;
-mod outcomes;
 mod parser;
 mod stage;
 

@@ -6,8 +6,8 @@ ghost use Rattle.mz_transcript.specs.RunLines.{answer_line_in, bare_heading, blo
 
 use crate::entries::read_step;
 use crate::listings::read_listed;
-use crate::outcomes::read_answer;
 use mz_base::Profile;
+use mz_lines::answer::read_answer;
 use mz_lines::command::read_command;
 use mz_lines::round_line::read_start;
 use mz_lines::space::read_space;

@@ -9,8 +9,8 @@ ghost use Rattle.mz_transcript.specs.Stages.{FaultIs, good, reading_of};
 use crate::fault::RunFault;
 use crate::stage::Stage;
 use mz_lines::laws::line_laws;
+use mz_trace::laws::one_more_name;
 use mz_trace::{Figures, Run, Tail};
-use mz_words::laws::word_laws;
 use mz_words::next_line;
 use std::alloc::Global;
 
@@ -21,8 +21,8 @@ pub fn parse_run(alloc: Global, bytes: &[u8]) -> Result<(Run, Tail), RunFault>
     ensures none { IfErr result (HasNoRun bytes.now) }
     ensures line { IfErr result (TellsFirstBadLine bytes.now) }
 {
-    word_laws();
     line_laws();
+    one_more_name();
     read_run(alloc, bytes)
 }
 

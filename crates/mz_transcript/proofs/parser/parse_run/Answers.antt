@@ -3,5 +3,5 @@ use Rattle.mz_transcript.proofs.parser.parse_run.Goals as goal
 
 pub returns : goal.returns
 returns c =
-    let a = answers (record { words = c.word_laws.ensures; lines = c.line_laws.ensures }) c.args.bytes.now c.read_run.result c.read_run.ensures in
+    let a = answers (record { words = c.line_laws.ensures.words; lines = c.line_laws.ensures; one_more_name = c.one_more_name.ensures }) c.args.bytes.now c.read_run.result c.read_run.ensures in
     record { text = a.text; none = a.none; line = a.line }

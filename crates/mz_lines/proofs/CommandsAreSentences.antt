@@ -1,5 +1,5 @@
 -- Commands and their sentences determine each other.
-use Rattle.std.proofs.Common.{◌≡◌, ℕ, ◌<◌, ◌≤◌, ◌^◌, Bool, true, false, map, List, [], ◌∷◌, length, refl, sym, ap, ◌∙◌, lit≤, codes, Option, Some, None}
+use Rattle.std.proofs.Common.{◌≡◌, ℕ, ◌<◌, ◌≤◌, ◌^◌, true, false, map, List, [], ◌∷◌, length, refl, sym, ap, ◌∙◌, codes, Option, Some, None}
 use Rattle.std.specs.Prelude.{◌&&◌, ◌||◌, is_some, is_none}
 use Rattle.std.specs.List.{list_all}
 use Rattle.std.specs.Str.{bytes_eq}
@@ -7,25 +7,23 @@ use Rattle.std.proofs.lemmas.Bool.{and_parts}
 use Rattle.std.proofs.lemmas.Slice.Eq.{bytes_eq-Decides}
 use Rattle.mz_base.specs.Names.{is_base_name}
 use Rattle.mz_words.specs.declared.kind.Word.{Word}
-use Rattle.mz_words.specs.declared.kind.Word.TheVariants.{Number, Small, Caller, Base, Name as Named, Old, New, Given, Zone, Byte, ShowCount, BatchCount, Place, Range, Bytes}
+use Rattle.mz_words.specs.declared.kind.Word.TheVariants.{Number, Caller, Base, Name as Named, Old, New, Given, Zone, Byte, ShowCount, BatchCount}
 use Rattle.mz_words.specs.declared.table.Form.{Form}
 use Rattle.mz_words.specs.declared.table.Form.TheVariants as form
 use Rattle.mz_words.specs.declared.table.TheConstants.{COMMANDS}
 use Rattle.mz_words.specs.declared.sentence.Sentence.{Sentence}
 use Rattle.mz_words.specs.declared.name.Name.{Name}
 use Rattle.mz_words.specs.declared.name.Name.TheVariants as name
-use Rattle.mz_words.specs.Numbers.{◌>>=◌}
 use Rattle.mz_words.specs.Names.{name_word, batch_word, given_word, name_fits, name_of, is_new}
 use Rattle.mz_words.specs.Lines.{are_visible, are_short}
 use Rattle.mz_words.specs.Kinds.{kind_of, word_fits, word_text, is_short_kind}
 use Rattle.mz_words.specs.Table.{form_among, form_word, kinds_of}
-use Rattle.mz_words.specs.Sentences.{words_fit, sentence, sentence_in, sentence_words, IsSentence}
+use Rattle.mz_words.specs.Sentences.{words_fit, sentence, sentence_in, IsSentence}
 use Rattle.mz_words.specs.Laws.{WordLaws}
-use Rattle.mz_lines.specs.declared.renaming.Names.{Names}
 use Rattle.mz_lines.specs.declared.renaming.Names.TheVariants.{Fresh, Renamed, KeptBatch, KeptGiven}
 use Rattle.mz_lines.specs.declared.command.Command.{Command}
 use Rattle.mz_lines.specs.declared.command.Command.TheVariants as command
-use Rattle.mz_lines.specs.Commands.{command_sentence, command_of, command_in, command_words, command_fits, realloc_of}
+use Rattle.mz_lines.specs.Commands.{command_sentence, command_of, command_in, command_words, command_fits}
 use Rattle.mz_lines.proofs.Options.{some_same, bind_none}
 use Rattle.mz_lines.proofs.ValuesAreSentences.{Converts, of_some, again, spelled, few_words}
 

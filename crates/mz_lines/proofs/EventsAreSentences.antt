@@ -1,11 +1,10 @@
 -- Events and their sentences determine each other.
-use Rattle.std.proofs.Common.{◌≡◌, ℕ, ◌≤◌, map, List, [], ◌∷◌, length, refl, Option, Some}
+use Rattle.std.proofs.Common.{◌≡◌, ◌≤◌, map, List, [], ◌∷◌, length, refl, Some}
 use Rattle.mz_words.specs.declared.kind.Word.{Word}
 use Rattle.mz_words.specs.declared.kind.Word.TheVariants as word
 use Rattle.mz_words.specs.declared.table.Form.{Form}
 use Rattle.mz_words.specs.declared.table.Form.TheVariants as form
 use Rattle.mz_words.specs.declared.table.TheConstants.{EVENTS}
-use Rattle.mz_words.specs.declared.sentence.Sentence.{Sentence}
 use Rattle.mz_words.specs.Kinds.{kind_of}
 use Rattle.mz_words.specs.Table.{form_among, form_word, kinds_of}
 use Rattle.mz_words.specs.Sentences.{sentence}

@@ -1,20 +1,19 @@
 -- The lines of a trace and their words determine each other, and words are a line exactly where no why of the words of a
 -- line holds.
-use Rattle.std.proofs.Common.{◌≡◌, ℕ, ◌+◌, ◌<◌, ◌≤◌, ◌^◌, Bool, true, false, List, [], ◌∷◌, length, eqb, ltb, cond, arith, refl, sym, ap, ◌∙◌, lit≤, inl, inr, Option, Some, None}
-use Rattle.std.specs.Prelude.{◌&&◌, ◌||◌, not, is_some, is_none, find}
+use Rattle.std.proofs.Common.{◌≡◌, ℕ, ◌<◌, ◌≤◌, ◌^◌, Bool, true, false, List, [], ◌∷◌, length, eqb, ltb, cond, arith, refl, sym, ap, ◌∙◌, lit≤, inl, inr, Option, Some, None}
+use Rattle.std.specs.Prelude.{◌&&◌, ◌||◌, not, is_none, find}
 use Rattle.std.specs.List.{list_any, list_all}
 use Rattle.std.specs.Option.{option_map_or}
 use Rattle.std.specs.Fmt.{decimal}
 use Rattle.std.proofs.lemmas.Bool.{cases_Bool, and_parts, and_from, eqb-true, eqb-false, ne_eqb, le-leb, lt-ltb, ltb-true}
 use Rattle.mz_base.specs.Names.{is_digit}
 use Rattle.mz_words.specs.declared.kind.Word.{Word}
-use Rattle.mz_words.specs.declared.flaw.Flaw.{Flaw}
 use Rattle.mz_words.specs.declared.kind.Kind.TheVariants.{Caller}
 use Rattle.mz_words.specs.declared.table.Form.{Form}
 use Rattle.mz_words.specs.declared.table.TheConstants.{COMMANDS, ROUND_LINES}
-use Rattle.mz_words.specs.Numbers.{are_digits, is_u64, caller_of, ◌>>=◌}
-use Rattle.mz_words.specs.Lines.{are_visible, are_short, is_short_word}
-use Rattle.mz_words.specs.Table.{kinds_of, form_among, form_word}
+use Rattle.mz_words.specs.Numbers.{are_digits, caller_of, ◌>>=◌}
+use Rattle.mz_words.specs.Lines.{are_visible, are_short}
+use Rattle.mz_words.specs.Table.{kinds_of, form_among}
 use Rattle.mz_words.specs.Sentences.{sentence, sentence_in, sentence_behind, read_words}
 use Rattle.mz_words.specs.Flaws.{flaws, is_wrong, some_wrong}
 use Rattle.mz_words.specs.Laws.{WordLaws}
@@ -26,7 +25,7 @@ use Rattle.mz_lines.specs.declared.line.Line.TheVariants.{Round, Start, Call}
 use Rattle.mz_lines.specs.Commands.{command_in, command_words, command_fits}
 use Rattle.mz_lines.specs.RoundLines.{start_words}
 use Rattle.mz_lines.specs.Lines.{line_words, line_fits}
-use Rattle.mz_lines.specs.Whys.{begins_with_digit, form_of, form_among_words, behind_first, fields_of, has_count, caller_wrong, field_wrong, has_flaw, word_whys, word_holds}
+use Rattle.mz_lines.specs.Whys.{begins_with_digit, form_among_words, behind_first, word_whys, word_holds}
 use Rattle.mz_lines.specs.LineReading.{call_in, heading_in, line_in}
 use Rattle.mz_lines.specs.Whys.{word_why}
 use Rattle.mz_lines.specs.Laws.{IsLine}

@@ -1,9 +1,9 @@
 -- Lines at the start of a round and their sentences determine each other.
-use Rattle.std.proofs.Common.{◌≡◌, ℕ, ◌<◌, ◌≤◌, ◌^◌, true, map, List, [], ◌∷◌, length, refl, subst, sym, ap, ◌∙◌, lit<, lit≤, Option, Some, None}
+use Rattle.std.proofs.Common.{◌≡◌, ℕ, ◌<◌, ◌≤◌, ◌^◌, true, map, List, [], ◌∷◌, length, refl, subst, sym, ap, ◌∙◌, lit<, Option, Some}
 use Rattle.std.specs.Prelude.{is_some, is_none}
 use Rattle.std.specs.List.{list_all}
 use Rattle.mz_words.specs.declared.kind.Word.{Word}
-use Rattle.mz_words.specs.declared.kind.Word.TheVariants.{Number, Small, Caller, Base, Name, Old, New, Given, Zone, Byte, ShowCount, BatchCount, Place, Range, Bytes}
+use Rattle.mz_words.specs.declared.kind.Word.TheVariants.{Number, Zone}
 use Rattle.mz_words.specs.declared.table.Form.{Form}
 use Rattle.mz_words.specs.declared.table.Form.TheVariants as form
 use Rattle.mz_words.specs.declared.table.TheConstants.{ROUND_LINES}
@@ -17,8 +17,8 @@ use Rattle.mz_words.specs.Laws.{WordLaws}
 use Rattle.mz_lines.specs.declared.round_line.RoundLine.{RoundLine}
 use Rattle.mz_lines.specs.declared.round_line.RoundLine.TheVariants as at
 use Rattle.mz_lines.specs.declared.line.Line.{Line}
-use Rattle.mz_lines.specs.declared.line.Line.TheVariants.{Round, Start, Call}
-use Rattle.mz_lines.specs.RoundLines.{start_sentence, start_of, start_in, start_words, start_fits}
+use Rattle.mz_lines.specs.declared.line.Line.TheVariants.{Round, Start}
+use Rattle.mz_lines.specs.RoundLines.{start_sentence, start_of, start_words, start_fits}
 use Rattle.mz_lines.specs.Lines.{line_words, line_fits}
 use Rattle.mz_lines.specs.LineReading.{heading_of, heading_in}
 use Rattle.mz_lines.proofs.Options.{bind_parts, some_same, bind_none}

@@ -1,5 +1,5 @@
 -- Values that stand for sentences of a family: what is written of them is read again, and what is read is written.
-use Rattle.std.proofs.Common.{◌≡◌, ℕ, ◌+◌, ◌<◌, ◌≤◌, ◌^◌, true, map, List, [], ◌∷◌, length, arith, sym, ap, ◌∙◌, lit<, lit≤, Option, Some, None}
+use Rattle.std.proofs.Common.{◌≡◌, ℕ, ◌<◌, ◌≤◌, ◌^◌, true, map, List, [], length, arith, sym, ap, ◌∙◌, lit<, lit≤, Option, Some}
 use Rattle.std.proofs.lemmas.List.{length-map}
 use Rattle.mz_words.specs.declared.kind.Word.{Word}
 use Rattle.mz_words.specs.declared.table.Form.{Form}
@@ -7,9 +7,8 @@ use Rattle.mz_words.specs.declared.table.Form.TheVariants as form
 use Rattle.mz_words.specs.declared.sentence.Sentence.{Sentence}
 use Rattle.mz_words.specs.Numbers.{◌>>=◌}
 use Rattle.mz_words.specs.Kinds.{kind_of, word_text}
-use Rattle.mz_words.specs.Lines.{are_visible}
 use Rattle.mz_words.specs.Table.{form_among, form_word, kinds_of}
-use Rattle.mz_words.specs.Sentences.{words_fit, sentence, sentence_in, sentence_words, IsSentence}
+use Rattle.mz_words.specs.Sentences.{words_fit, sentence_in, sentence_words, IsSentence}
 use Rattle.mz_words.specs.Laws.{WordLaws}
 use Rattle.mz_lines.specs.Laws.{Holds}
 use Rattle.mz_lines.proofs.Options.{bind_parts, some_same}

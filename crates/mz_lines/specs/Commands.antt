@@ -1,7 +1,7 @@
 -- Commands, to and from sentences. This project's own.
 use Rattle.std.specs.Prelude.{ℕ, Bool, List, [], ◌∷◌, Option, Some, None}
 use Rattle.mz_words.specs.declared.kind.Word.{Word}
-use Rattle.mz_words.specs.declared.kind.Word.TheVariants.{Number, Small, Caller, Base, Name as Named, Old, New, Given, Zone, Byte, ShowCount, BatchCount, Place, Bytes}
+use Rattle.mz_words.specs.declared.kind.Word.TheVariants.{Number, Caller, Base, Name as Named, Old, New, Given, Zone, Byte, ShowCount, BatchCount}
 use Rattle.mz_words.specs.declared.table.Form.{Form}
 use Rattle.mz_words.specs.declared.table.Form.TheVariants as form
 use Rattle.mz_words.specs.declared.sentence.Sentence.{Sentence}

@@ -23,11 +23,17 @@ use Rattle.mz_trace.specs.Texts.{lines_text, first_words, IsTrace, IsTraceText, 
 use Rattle.mz_trace.specs.Faults.{Fails, TellsBadLine, is_out_of_place, is_given_before, why_of, first, second, later, bad_later, bad_line, BadLine, bad_line_of}
 use Rattle.mz_trace.specs.Reading.{rounds_of, behind, trace_in}
 use Rattle.mz_trace.specs.Readers.{ComesTo, HasNumbers, numbers_of, place_why, words_why}
-use Rattle.mz_trace.proofs.Options.{bind_parts, some_same}
 use Rattle.mz_trace.proofs.LaterLines.{why_of-plain, why_of-not_plain}
 use Rattle.mz_trace.proofs.CutsAreText.{with_feed, uncut, all_ended, uncut-cuts, line_text-words_of}
 use Rattle.mz_trace.proofs.GoodLinesMakeRounds.{Before, stood, IsSound, sound_start, sound_step, are_rounds, count_rounds}
 use Rattle.mz_trace.proofs.NormalFormIsText.{text_is_trace}
+
+bind_parts : {A B : Type 0} (o : Option A) (f : A → Option B) (y : B) → (o >>= f) ≡ Some y → (x : A) × (o ≡ Some x) × (f x ≡ Some y)
+bind_parts None f y h = absurd cc
+bind_parts (Some x) f y h = (x, refl, h)
+
+some_same : {A : Type 0} (x y : A) → Some x ≡ Some y → x ≡ y
+some_same x y h = cc
 
 -- a line of which no why holds
 record IsGood (callers : ℕ) (before : Before) (words : List (List ℕ)) : Type 0 where

@@ -1,5 +1,5 @@
 -- One more line: what its words say of it, and what has then been read.
-use Rattle.std.proofs.Common.{◌≡◌, ℕ, ◌+◌, ◌<◌, ◌^◌, Bool, true, false, List, [], ◌∷◌, cond, eqb, arith, refl, sym, ap, ◌∙◌, Option, Some, None}
+use Rattle.std.proofs.Common.{◌≡◌, ℕ, ◌+◌, ◌<◌, ◌^◌, Bool, true, false, List, ◌∷◌, cond, eqb, arith, refl, sym, ap, ◌∙◌, Option, Some, None}
 use Rattle.std.specs.Prelude.{◌||◌, count_by}
 use Rattle.std.specs.List.{list_any, filter_map}
 use Rattle.std.specs.Option.{option_map_or}
@@ -21,7 +21,6 @@ use Rattle.mz_lines.specs.declared.why.Why.{Why}
 use Rattle.mz_lines.specs.declared.why.Why.TheVariants.{OutOfPlace, GivenBefore}
 use Rattle.mz_lines.specs.Lines.{line_words, line_fits, gives}
 use Rattle.mz_trace.specs.Faults.{begins_round, given_in, is_out_of_place, is_given_before}
-use Rattle.mz_trace.specs.Given.{has_name}
 use Rattle.mz_trace.specs.Readers.{HasRead, Adds, Takes, CanAdd, ReadsLine, is_round, is_call, is_misplaced, is_given, reader_why, place_why, words_why}
 
 -- what the words of a line say

@@ -1,6 +1,6 @@
 -- The runs and the tails that have a text. A clause sees numbers as any numbers and names as any bytes; the tests here say
 -- which of them are those of a line. This project's own.
-use Rattle.std.specs.Prelude.{ℕ, ◌≡◌, ◌≤◌, ◌^◌, ◌==◌, ◌++◌, ◌&&◌, Bool, true, false, nat_lt, List, length, map, count_by}
+use Rattle.std.specs.Prelude.{ℕ, ◌≡◌, ◌≤◌, ◌==◌, ◌++◌, ◌&&◌, Bool, true, List, length, map, count_by}
 use Rattle.std.specs.List.{list_all, flat_map}
 use Rattle.mz_base.specs.Limits.{IsWithinLimits}
 use Rattle.mz_trace.specs.declared.round.TheConstants.{MOST_ROUNDS}

@@ -2,10 +2,9 @@
 
 ghost use Rattle.std.specs.Prelude.{◌≡◌, ◌<◌, ◌++◌, ◌∷◌, [], OnOk, OnErr, IfOk, length, slice_index_or, slice_set, replicate};
 
-use mz_lines::Command;
 use crate::round::Round;
-use mz_lines::RoundLine;
 use mz_base::Items;
+use mz_lines::{Command, RoundLine};
 use std::alloc::{AllocError, Global};
 use std::marker::Model;
 

@@ -10,13 +10,13 @@ ghost use Rattle.mz_trace.specs.Reading.{rounds_of, behind, trace_in};
 ghost use Rattle.mz_trace.specs.Readers.{ComesTo, IsSecond};
 
 use crate::fault::TraceFault;
-use mz_lines::Why;
 use crate::reader::Reader;
 use crate::round::Round;
-use mz_lines::space::read_space;
 use crate::trace::Trace;
 use mz_base::{Items, Profile};
+use mz_lines::Why;
 use mz_lines::laws::line_laws;
+use mz_lines::space::read_space;
 use mz_words::line::is_plain;
 use mz_words::{RawLine, next_line, words};
 use std::alloc::{AllocError, Global};

@@ -10,14 +10,13 @@ ghost use Rattle.mz_lines.specs.Lines.{line_words};
 ghost use Rattle.mz_trace.specs.Rounds.{call_line, calls_from, round_lines, lines_of_rounds};
 ghost use Rattle.mz_trace.specs.Texts.{lines_text, normal_text, IsTrace, IsTraceText};
 
-use mz_lines::Command;
-use mz_lines::command::write_command;
 use crate::round::Round;
-use mz_lines::RoundLine;
-use mz_lines::round_line::write_start;
-use mz_lines::space::write_space;
 use crate::trace::Trace;
 use mz_base::Items;
+use mz_lines::command::write_command;
+use mz_lines::round_line::write_start;
+use mz_lines::space::write_space;
+use mz_lines::{Command, RoundLine};
 use std::alloc::{AllocError, Global};
 
 /// The text of a trace in normal form: in each round the lines at its start, then the commands of

@@ -1,8 +1,6 @@
-use mz_lines::Answer;
-use mz_lines::Command;
-use mz_lines::RoundLine;
 use mz_base::{Items, Profile};
 use mz_events::Event;
+use mz_lines::{Answer, Command, RoundLine};
 
 /// An event with its ticket. Whose it is, the section in which it stands says.
 #[derive(Clone, Copy, Debug, PartialEq, Eq)]

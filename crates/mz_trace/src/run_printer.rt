@@ -12,15 +12,15 @@ ghost use Rattle.mz_trace.specs.RunForms.{IsRun, IsTail, IsRunText};
 ghost use Rattle.mz_trace.specs.RunTexts.{outcome_lines, run_text, run_round_lines, sections_from, section_lines, start_record_lines, call_record_lines, step_words};
 ghost use Rattle.mz_trace.specs.TailTexts.{tail_text, listed_words, statistics_lines};
 
+use crate::run::{CallRecord, Run, RunRound, StartRecord, Step};
+use crate::tail::{Figures, Listed, Statistics};
+use mz_base::Items;
 use mz_lines::Answer;
 use mz_lines::answer::write_answer;
 use mz_lines::command::write_command;
 use mz_lines::event::write_event;
 use mz_lines::round_line::write_start;
-use crate::run::{CallRecord, Run, RunRound, StartRecord, Step};
 use mz_lines::space::write_space;
-use crate::tail::{Figures, Listed, Statistics};
-use mz_base::Items;
 use mz_words::{Form, Word, write_sentence};
 use std::alloc::{AllocError, Global};
 

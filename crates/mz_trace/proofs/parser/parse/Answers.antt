@@ -1,4 +1,3 @@
-use Rattle.std.proofs.Common.{Ok, Err}
 use Rattle.mz_trace.proofs.GoodTextIsTrace.{is_found, is_good, is_bad, is_trace}
 use Rattle.mz_trace.proofs.TraceTextIsRead.{only}
 use Rattle.mz_trace.proofs.parser.parse.Goals as goal

@@ -1,4 +1,4 @@
-use Rattle.std.proofs.Common.{◌≡◌, map, Some, None, sym, ap, ◌∙◌, arith}
+use Rattle.std.proofs.Common.{◌≡◌, map, Some, sym, ap, ◌∙◌, arith}
 use Rattle.mz_lines.specs.LineReading.{line_in}
 use Rattle.mz_trace.proofs.LaterLines.{if_ok}
 use Rattle.mz_trace.proofs.LineIsKept.{reads_bad, reads_taken, can_add}

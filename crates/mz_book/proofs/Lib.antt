@@ -5,6 +5,7 @@ mod PairLemmas
 mod OwnerLemmas
 mod ListLemmas
 mod LiveLemmas
+mod SumLemmas
 mod QuantumLemmas
 mod LightLemmas
 mod DutyLemmas

@@ -3,26 +3,25 @@ use Rattle.std.proofs.Common.{◌≡◌, ℕ, ◌+◌, ◌<◌, ◌≤◌, Bool,
 use Rattle.std.specs.Prelude.{◌&&◌, ◌||◌, sum_by, nat_lt}
 use Rattle.std.specs.List.{list_any, All}
 use Rattle.std.proofs.lemmas.Bool.{cases_Bool, false≢true}
-use Rattle.std.proofs.lemmas.Bool.Decides.{nat_tests}
 use Rattle.std.proofs.lemmas.List.{length-map}
 use Rattle.std.proofs.lemmas.List.Sums.{sum_by-append, sum_by-cons}
 use Rattle.std.proofs.lemmas.List.Elements.{All-head, All-tail}
 use Rattle.mz_base.specs.declared.profile.Profile.{Profile}
 use Rattle.mz_base.specs.Space.{Block, block_at, block_end, same_block}
-use Rattle.mz_base.specs.Lists.{insert_by, size_sum}
+use Rattle.mz_base.specs.Lists.{insert_by}
 use Rattle.mz_events.specs.declared.entry.Entry.{Entry}
 use Rattle.mz_events.specs.declared.place.Place.{Place}
 use Rattle.mz_events.specs.declared.event.Event.{Event}
 use Rattle.mz_events.specs.declared.event.Event.TheVariants.{Take, Back, Move, New, End, Size, Full, Dry, No, Open, Shut}
 use Rattle.mz_events.specs.Places.{Spot, spot_at}
-use Rattle.mz_events.specs.State.{State, opening, live_blocks, live_size}
+use Rattle.mz_events.specs.State.{State, opening, live_blocks}
 use Rattle.mz_events.specs.Changes.{one_for}
 use Rattle.mz_events.specs.Effect.{after}
 use Rattle.mz_events.specs.Rules.{Fits}
 use Rattle.mz_events.specs.History.{AreLawful, after_all}
 use Rattle.mz_events.specs.Separation.{InOrder, by_address}
 use Rattle.mz_book.specs.Account.{is_live, entry_at}
-use Rattle.mz_book.specs.Living.{lives_after, times, blocks_of, made_by, ended_by, SumsAfter}
+use Rattle.mz_book.specs.Living.{times, blocks_of, made_by, ended_by, SumsAfter}
 use Rattle.mz_book.specs.HistoryLaws.{HistoryLaws}
 use Rattle.mz_book.proofs.OwnerLemmas.{same_true, same_refl}
 use Rattle.mz_book.proofs.LiveLemmas.{to_live, once_s, once_t, then_lawful, then_is, live_after, new_is_fresh, sized_is_fresh}

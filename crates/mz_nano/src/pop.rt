@@ -15,7 +15,8 @@ use crate::seat::{Miss, NanoSeat};
 use crate::slot::SlotSpan;
 use crate::view::{Held, View};
 use atomic_table::Seat;
-use mz_ground::Span;
+use mz_base::PAGE;
+use mz_ground::Parcel;
 use mz_nanoword::NanoWord;
 use std::mem;
 
@@ -65,9 +66,19 @@ fn slot_count(class: u64) -> u64
     1024 / class
 }
 
+// How far the slot is behind the first page.
+fn slot_at(block: u64, slot: u64, class: u64) -> u64
+    requires block { block < 2 ^ 50 }
+    requires class { class ≤ 16 }
+    requires few { 16 * class * slot ≤ 16384 }
+    ensures { result ≡ block * 16384 + 16 * class * slot }
+{
+    block * PAGE + 16 * class * slot
+}
+
 impl Nano {
     // Loads the blocks' words up to the first that is usable.
-    pub(crate) fn scan(&self, seat: &mut Seat<Option<Span>, View>, class: u64) -> Candidate
+    pub(crate) fn scan(&self, seat: &mut Seat<Option<Parcel>, View>, class: u64) -> Candidate
         requires table { seat.old.table_id ≡ self.now.table.shared.table_id }
         requires geometry { seat.old.me.0.geometry ≡ self.now.table.shared.key }
         requires live { seat.old.me.0.live ≡ true }
@@ -96,12 +107,12 @@ impl Nano {
     // Tries to take the first slot of the word `old`, whose link is known.
     pub(crate) fn take_first(
         &self,
-        seat: &mut Seat<Option<Span>, View>,
+        seat: &mut Seat<Option<Parcel>, View>,
         b: u64,
         old: u64,
         word: NanoWord,
         link: u64,
-    ) -> Result<Span, u64>
+    ) -> Result<Parcel, u64>
         requires table { seat.old.table_id ≡ self.now.table.shared.table_id }
         requires geometry { seat.old.me.0.geometry ≡ self.now.table.shared.key }
         requires exists { b < self.now.blocks }
@@ -146,12 +157,12 @@ impl Nano {
     // Cuts a claimed page into its slots, and answers the rest of it.
     pub(crate) fn cut_all(
         &self,
-        seat: &mut Seat<Option<Span>, View>,
+        seat: &mut Seat<Option<Parcel>, View>,
         b: u64,
         class: u64,
         n: u64,
-        page: Span,
-    ) -> Span
+        page: Parcel,
+    ) -> Parcel
         requires table { seat.old.table_id ≡ self.now.table.shared.table_id }
         requires geometry { seat.old.me.0.geometry ≡ self.now.table.shared.key }
         requires exists { b < self.now.blocks }
@@ -183,10 +194,10 @@ impl Nano {
     // Claims the block `b`, makes it ready and takes its first slot.
     pub(crate) fn claim(
         &self,
-        seat: &mut Seat<Option<Span>, View>,
+        seat: &mut Seat<Option<Parcel>, View>,
         b: u64,
         class: u64,
-    ) -> Result<Span, (u64, u64)>
+    ) -> Result<Parcel, (u64, u64)>
         requires table { seat.old.table_id ≡ self.now.table.shared.table_id }
         requires geometry { seat.old.me.0.geometry ≡ self.now.table.shared.key }
         requires exists { b < self.now.blocks }
@@ -237,22 +248,25 @@ impl Nano {
         }
     }
 
-    // A slot, with the first address of the nano's span.
-    fn slot_span(&self, block: u64, slot: u64, class: u64, span: Span) -> SlotSpan
+    // Lays a slot's bytes. It has the first address of the nano's span with it.
+    pub(crate) fn slot_span(&self, block: u64, slot: u64, class: u64, parcel: Parcel) -> SlotSpan
         requires class { (1 ≤ class) × (class ≤ 16) }
         requires slot { slot < slots class }
-        requires piece { IsPiece self.now.table.shared.key block (16 * class * slot) (16 * class) span }
+        requires exists { block < self.now.blocks }
+        requires piece { IsPiece self.now.table.shared.key block (16 * class * slot) (16 * class) parcel }
         ensures which { (result.block ≡ block) × (result.slot ≡ slot) × (result.class ≡ class) }
         ensures base { result.base ≡ first_of self.now }
-        ensures span { result.span ≡ span }
+        ensures span { result.span ≡ parcel }
     {
-        SlotSpan::new(block, slot, class, self.edge.first(), span)
+        let at = slot_at(block, slot, class);
+        let span = self.estate.lay(parcel, at, 16 * class);
+        SlotSpan::new(block, slot, class, self.estate.first(), span)
     }
 
     // A pop by the seat within.
     pub(crate) fn pop_once(
         &self,
-        seat: &mut Seat<Option<Span>, View>,
+        seat: &mut Seat<Option<Parcel>, View>,
         class: u64,
     ) -> Result<SlotSpan, Miss>
         requires table { seat.old.table_id ≡ self.now.table.shared.table_id }

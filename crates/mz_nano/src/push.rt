@@ -10,7 +10,7 @@ use crate::seat::{Contended, NanoSeat};
 use crate::slot::SlotSpan;
 use crate::view::View;
 use atomic_table::Seat;
-use mz_ground::Span;
+use mz_ground::Parcel;
 use mz_nanoword::NanoWord;
 
 // The generation after a push, which leaves the last one as it is.
@@ -32,12 +32,12 @@ impl Nano {
     // A push by the seat within.
     fn push_once(
         &self,
-        seat: &mut Seat<Option<Span>, View>,
+        seat: &mut Seat<Option<Parcel>, View>,
         block: u64,
         slot: u64,
         class: u64,
-        span: Span,
-    ) -> Result<(), (Span, u64, u64)>
+        span: Parcel,
+    ) -> Result<(), (Parcel, u64, u64)>
         requires table { seat.old.table_id ≡ self.now.table.shared.table_id }
         requires geometry { seat.old.me.0.geometry ≡ self.now.table.shared.key }
         requires live { seat.old.me.0.live ≡ true }
@@ -92,15 +92,15 @@ impl Nano {
         ensures ok { OnOk result (Pushed seat.old.seat.me s.block s.slot s.class seat.new.seat.me) }
         ensures err { IfErr result (λ e. (e.slot ≡ s) × PushLost seat.old.seat.me s.block e.expected e.found seat.new.seat.me) }
     {
-        let (block, slot, class, base) = (s.block(), s.slot(), s.class(), s.base());
-        let span = s.into_span();
+        let (block, slot, class) = (s.block(), s.slot(), s.class());
+        let span = s.into_parcel();
         match self.push_once(&mut seat.seat, block, slot, class, span) {
             Ok(()) => {
                 seat.held -= 1;
                 Ok(())
             }
             Err((span, expected, found)) => Err(Contended {
-                slot: SlotSpan::new(block, slot, class, base, span),
+                slot: self.slot_span(block, slot, class, span),
                 expected,
                 found,
             }),

@@ -70,7 +70,7 @@ fn slot_count(class: u64) -> u64
 fn slot_at(block: u64, slot: u64, class: u64) -> u64
     requires block { block < 2 ^ 50 }
     requires class { class ≤ 16 }
-    requires few { 16 * class * slot ≤ 16384 }
+    requires few { 16 * class * slot < 16384 }
     ensures { result ≡ block * 16384 + 16 * class * slot }
 {
     block * PAGE + 16 * class * slot

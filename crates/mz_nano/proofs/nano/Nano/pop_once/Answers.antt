@@ -10,7 +10,7 @@ pub returns-in-Nothing-clause-err : goal.returns-in-Nothing-clause-err
 returns-in-Nothing-clause-err c =
     let q = c.requires in
     let s = c.in-Nothing.ensures in
-    none_loaded c.args.seat.now.me c.scan.new.seat.me s.loaded.0 c.args.class q.live q.at_rest.0 q.at_rest.1 q.at_rest.2 s.loaded.1 s.carried s.loaded.2
+    none_loaded c.args.seat.now.me c.scan.new.seat.me s.loaded.0 c.args.class q.live q.at_rest.0 q.at_rest.1 q.at_rest.2 s.loaded.1 s.carried s.loaded.2.0 s.loaded.2.1
 
 pub returns-in-Ok-clause-ok : goal.returns-in-Ok-clause-ok
 returns-in-Ok-clause-ok c =

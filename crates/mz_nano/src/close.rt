@@ -28,7 +28,7 @@ fn take_next(closed: &mut Closed<Option<Parcel>, Global>, i: usize) -> Option<Pa
     closed.take(i)
 }
 
-// How many places of the block have a span.
+// How many places of the block have a parcel.
 fn count_pieces(word: &NanoWord) -> u64
     requires { word.now.state ≤ 16 }
     ensures { (w : ℕ) → word.now ≡ word_of w → result ≡ pieces w }
@@ -40,7 +40,7 @@ fn count_pieces(word: &NanoWord) -> u64
     }
 }
 
-// Takes all places of the block `b`, the first `n` of which have its spans, and puts these behind `whole`.
+// Takes all places of the block `b`, the first `n` of which have its parcels, and puts these behind `whole`.
 fn gather_block(
     closed: &mut Closed<Option<Parcel>, Global>,
     whole: Parcel,
@@ -61,7 +61,7 @@ fn gather_block(
     let mut whole = whole;
     for j in 0..n {
         match take_next(closed, (b * PLACES + j) as usize) {
-            Some(span) => whole.extend(span),
+            Some(parcel) => whole.extend(parcel),
             None => unreachable!(),
         }
     }
@@ -71,7 +71,7 @@ fn gather_block(
     whole
 }
 
-// All spans in a row, behind the empty one.
+// All parcels in a row, behind the empty one.
 fn gather(closed: Closed<Option<Parcel>, Global>, edge: Parcel, blocks: u64) -> Parcel
     requires full { IsFull closed.words × IsFull closed.slots }
     requires counts { (slots_len closed.words ≡ blocks * 1025) × (slots_len closed.slots ≡ blocks * 1025) × (blocks < 2 ^ 50) }

@@ -9,7 +9,7 @@ use atomic_table::Table;
 use mz_ground::{Estate, Parcel};
 use std::alloc::Global;
 
-// How many links a block has, and how many places for its spans: one for each slot, and one for what
+// How many links a block has, and how many places for its parcels: one for each slot, and one for what
 // is left of the page behind the last slot.
 pub(crate) const LINKS: u64 = 1024;
 
@@ -18,7 +18,7 @@ pub(crate) const PLACES: u64 = 1025;
 /// Slots of 16 to 256 bytes in the pages of one span. Threads share it, each with a seat of its own.
 #[derive(Drop)]
 pub struct Nano {
-    // The word of each block, and then the links of each; the places of each block's spans.
+    // The word of each block, and then the links of each; the places of each block's parcels.
     pub(crate) table: Table<Option<Parcel>, View, Geometry, NanoRule, Global>,
     pub(crate) blocks: u64,
     pub(crate) most_gen: u64,

@@ -142,16 +142,16 @@ impl Nano {
             return Err(found);
         }
         let slot = word.next - 1;
-        let span = match self
+        let parcel = match self
             .table
             .shared
             .exchange(seat, (b * PLACES + slot) as usize, None)
         {
-            Some(span) => span,
+            Some(parcel) => parcel,
             None => unreachable!(),
         };
         self.give_place(seat, b);
-        Ok(span)
+        Ok(parcel)
     }
 
     // Cuts a claimed page into its slots, and answers the rest of it.
@@ -243,7 +243,7 @@ impl Nano {
         let word = ready.pack();
         self.make_ready(seat, b, word);
         match self.take_first(seat, b, word, ready, 2) {
-            Ok(span) => Ok(span),
+            Ok(parcel) => Ok(parcel),
             Err(found) => Err((word, found)),
         }
     }
@@ -259,8 +259,8 @@ impl Nano {
         ensures span { result.span ≡ parcel }
     {
         let at = slot_at(block, slot, class);
-        let span = self.estate.lay(parcel, at, 16 * class);
-        SlotSpan::new(block, slot, class, self.estate.first(), span)
+        let strip = self.estate.lay(parcel, at, 16 * class);
+        SlotSpan::new(block, slot, class, self.estate.first(), strip)
     }
 
     // A pop by the seat within.
@@ -281,7 +281,7 @@ impl Nano {
         match self.scan(seat, class) {
             Candidate::Nothing => Err(Miss::Exhausted),
             Candidate::Unassigned(block) => match self.claim(seat, block, class) {
-                Ok(span) => Ok(self.slot_span(block, 0, class, span)),
+                Ok(parcel) => Ok(self.slot_span(block, 0, class, parcel)),
                 Err((expected, found)) => Err(Miss::Contended {
                     block,
                     expected,
@@ -292,7 +292,7 @@ impl Nano {
                 let slot = word.next - 1;
                 let link = self.load_link(seat, block, slot);
                 match self.take_first(seat, block, expected, word, link) {
-                    Ok(span) => Ok(self.slot_span(block, slot, class, span)),
+                    Ok(parcel) => Ok(self.slot_span(block, slot, class, parcel)),
                     Err(found) => Err(Miss::Contended {
                         block,
                         expected,

@@ -28,7 +28,7 @@ impl Play<Option<Parcel>, View> for LoadBlock {
     ghost then = { LoadsBlock };
 }
 
-/// `load-block`, which gives back the place of a slot whose span went to its hand.
+/// `load-block`, which gives back the place of a slot that went to its hand.
 pub struct GivePlace;
 
 impl Play<Option<Parcel>, View> for GivePlace {

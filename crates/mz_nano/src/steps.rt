@@ -155,7 +155,7 @@ impl Nano {
             .compare_exchange::<ClaimExchange>(seat, b as usize, old, new)
     }
 
-    // Stores the link of the slot k of a claimed block, gives its span and takes the next place.
+    // Stores the link of the slot k of a claimed block, gives its parcel and takes the next place.
     pub(crate) fn cut(&self, seat: &mut Seat<Option<Parcel>, View>, b: u64, k: u64, next: u64)
         requires table { seat.old.table_id ≡ self.now.table.shared.table_id }
         requires geometry { seat.old.me.0.geometry ≡ self.now.table.shared.key }

@@ -5,7 +5,7 @@ use mz_ground::Parcel;
 use std::collections::LinkedList;
 
 /// What a nano was opened with: how many blocks, the generation at which they retire, how many
-/// seats, and an empty span where the first block begins.
+/// seats, and a parcel of no bytes where the first block begins.
 #[derive(Drop)]
 pub struct Geometry {
     pub blocks: u64,

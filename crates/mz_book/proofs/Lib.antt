@@ -18,4 +18,5 @@ mod GrowthLemmas
 mod WordLemmas
 mod ClientLemmas
 mod ToyLemmas
+mod PartsLemmas
 mod ToySlotLemmas

@@ -39,10 +39,12 @@ pub struct Clash {
     pub found: u64,
 }
 
-/// The record of a seat that was taken in, with its number.
+/// A seat that was taken in: its number, what it had seen, its record and its pairs.
 pub struct TakenIn {
     pub caller: u32,
+    pub seen: LinkedList<Entry>,
     pub noted: LinkedList<Entry>,
+    pub pairs: LinkedList<Pair>,
 }
 
 /// The view of a seat. Lists of loads, wins and clashes have the newest first.
@@ -73,6 +75,6 @@ pub struct View {
     pub loads: LinkedList<Load>,
     pub wins: LinkedList<Win>,
     pub clashes: LinkedList<Clash>,
-    /// The records of the seats that it took in, newest first.
+    /// The seats that it took in, newest first.
     pub joined: LinkedList<TakenIn>,
 }

@@ -1,9 +1,21 @@
-//! What a seat of a register knows. No value of these types is made: they are for proofs alone.
+//! What a register is opened with, and what a seat of it knows. Of all types here but `Opening` no value is made: they are for proofs
+//! alone.
 
 use mz_base::Profile;
 use mz_book::{Light, Pair};
 use mz_events::Entry;
 use std::collections::LinkedList;
+use std::snapshot::Snapshot;
+
+/// What a register is opened with: the profile, the history so far, for each quantum the caller who owns the block that begins there, and
+/// a keeper of the space of all, for contracts alone.
+#[derive(Drop)]
+pub struct Opening<V> {
+    pub profile: Profile,
+    pub history: Vec<Entry>,
+    pub quanta: Vec<u8>,
+    pub site: Snapshot<V>,
+}
 
 /// The space in which the keepers stand for their places.
 pub struct SpaceName {

@@ -19,4 +19,5 @@ mod GrowthLemmas
 mod WordLemmas
 mod ClientLemmas
 mod ToyLemmas
+mod PartsLemmas
 mod ToySlotLemmas

@@ -33,4 +33,3 @@ returns-clause-fit g c =
       words = λ i j li lj. free_word b.caller (get_or b.slots.items (i * 1024 + j) 0) (is_slot_live b.profile st i j) (has_slot b.profile (hand_among b.caller (pairs_told b.quanta.items b.history.items)) i j)
           (unlit_words 0 b.slots.items c.requires.lights (i * 1024 + j)) (b.words i j li lj);
     }
-

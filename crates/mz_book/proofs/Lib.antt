@@ -6,6 +6,7 @@ mod OwnerLemmas
 mod ListLemmas
 mod LiveLemmas
 mod SumLemmas
+mod ZoneLemmas
 mod QuantumLemmas
 mod LightLemmas
 mod DutyLemmas

@@ -152,7 +152,7 @@ unfolding insert_by
 times_inserted b x [] = times_cons b x.1 []
 times_inserted b x (y ∷ ys) = insert_case b x y ys (insert_by (λ z. z.1.first) x ys) (nat_lt x.1.first y.1.first) (times_inserted b x ys)
 
-times_sorted : (b : Block) (xs : List (Spot × Block)) → times b (map (λ x. x.1) (by_address xs)) ≡ times b (map (λ x. x.1) xs)
+pub times_sorted : (b : Block) (xs : List (Spot × Block)) → times b (map (λ x. x.1) (by_address xs)) ≡ times b (map (λ x. x.1) xs)
 unfolding by_address
 times_sorted b [] = refl
 times_sorted b (x ∷ xs) =

@@ -11,3 +11,4 @@ pub mod Regions
 pub mod KeepingRuns
 pub mod KeepingFreed
 pub mod Adopting
+pub mod Tested

@@ -1,9 +1,12 @@
 -- The place of a block among tiled ones: adding and dropping it by its place.
 use Rattle.std.proofs.Common.{◌≡◌, ℕ, suc, zero, ◌+◌, ◌-◌, ◌<◌, ◌≤◌, true, false, Option, Some, None, List, [], ◌∷◌, ◌++◌, length, get_or, refl, ap, sym, subst, ◌∙◌, inl, inr, arith}
-use Rattle.std.specs.Prelude.{◌*◌, ◌==◌, nat_lt, find, insert, remove}
-use Rattle.std.specs.List.{list_all}
+use Rattle.std.specs.Prelude.{◌*◌, ◌/◌, ◌==◌, nat_le, nat_lt, find, insert, remove}
+use Rattle.std.specs.List.{list_all, list_any, AllWithin}
+use Rattle.std.proofs.lemmas.Nat.{div-add-mod'}
+use Rattle.mz_events.specs.Separation.{has_page}
+use Rattle.mz_events.specs.Changes.{run_of}
 use Rattle.std.specs.List.Sorted.{IsNonDecreasingBy, IsPartitionPoint}
-use Rattle.std.proofs.lemmas.Bool.{and_parts, or_cases, false≢true, ltb-true, ltb-false, lt-ltb, le-ltb, eq-eqb, ne_eqb, or_left, or_right, cond-true, cond-false}
+use Rattle.std.proofs.lemmas.Bool.{cases_Bool, and_parts, and_from, and_left, and_right, or_from, leb-true, leb-false, le-leb, lt-leb, or_cases, false≢true, ltb-true, ltb-false, lt-ltb, le-ltb, eq-eqb, ne_eqb, or_left, or_right, cond-true, cond-false}
 use Rattle.mz_base.specs.Space.{Block, block_end, blocks_apart, same_block}
 use Rattle.mz_base.specs.Lists.{insert_by, has_block, add_block, drop_block, size_at}
 use Rattle.mz_base.specs.declared.range.TheConstants.{PAGE}
@@ -185,3 +188,82 @@ size-none end (c ∷ cs) x a zero h place other =
 size-none end (c ∷ cs) x a (suc i) h place other =
     let order : c.first < a = place.before 0 c (omega arith) (omega arith) in
     size-later c cs a (λ e. omega arith) ∙ size-none end cs (block_end c) a i h.2 (place-tail c cs a i place) (λ d within at. other d (omega arith) at)
+
+-- a block is none of them where what stands at its place is another one
+pub not-there : (end : ℕ) (bs : List Block) (x : ℕ) (b : Block) (i : ℕ) (d : Block) → IsTiled end x bs → IsPlaceOf bs b.first i → (i < length bs → get_or bs i d ≡ b → ⊥) → has_block bs b ≡ false
+not-there end bs x b i d h place other =
+    elim (cases_Bool (has_block bs b)) [
+      | inl among ↦ let found = found-there end bs x b i d h place among in absurd (other found.0 found.1)
+      | inr none ↦ none
+    ]
+
+-- one block more
+pub length-add : (b : Block) (bs : List Block) → length (add_block b bs) ≡ length bs + 1
+unfolding insert_by
+length-add b [] = refl
+length-add b (c ∷ cs) =
+    elim (cases_Bool (nat_lt b.first c.first)) [
+      | inl low ↦ let e = ap length (cond-true (nat_lt b.first c.first) (b ∷ c ∷ cs) (c ∷ add_block b cs) low) in omega arith
+      | inr high ↦ let e = ap length (cond-false (nat_lt b.first c.first) (b ∷ c ∷ cs) (c ∷ add_block b cs) high) in let rest = length-add b cs in omega arith
+    ]
+
+-- the blocks before the place begin in pages up to this one, and the others in later ones
+pub record IsPageSplit (bs : List Block) (page i : ℕ) : Type 0 where
+  pub within : i ≤ length bs
+  pub before : AllWithin (λ c. c.first / PAGE ≤ page) bs 0 i
+  pub behind : AllWithin (λ c. page < c.first / PAGE) bs i (length bs)
+
+div_up : (a b : ℕ) → a ≤ b → a / PAGE ≤ b / PAGE
+div_up a b h = omega (arith, div-add-mod' a PAGE, div-add-mod' b PAGE)
+
+pub pages-ascend : (end : ℕ) (bs : List Block) → IsTiled end 0 bs → IsNonDecreasingBy (λ (c : Block). c.first / PAGE) bs
+pages-ascend end bs h i j d order within = div_up (get_or bs i d).first (get_or bs j d).first (tiled-ascends end bs 0 h i j d order within)
+
+pub split-found : (ys : List Block) (page i : ℕ) → i ≤ length ys → IsPartitionPoint (λ (c : Block). nat_le (c.first / PAGE) page ≡ true) (λ (c : Block). nat_le (c.first / PAGE) page ≡ false) ys i → IsPageSplit ys page i
+split-found ys page i within parts =
+    record {
+      within = within;
+      before = λ k d low high. leb-true ((get_or ys k d).first / PAGE) page (parts.0 k d low high);
+      behind = λ k d low high. leb-false ((get_or ys k d).first / PAGE) page (parts.1 k d low high);
+    }
+
+split-tail : (c : Block) (cs : List Block) (page i : ℕ) → IsPageSplit (c ∷ cs) page (suc i) → IsPageSplit cs page i
+split-tail c cs page i h =
+    let within = h.within in
+    record {
+      within = omega arith;
+      before = λ k d low high. h.before (suc k) d (omega arith) (omega arith);
+      behind = λ k d low high. h.behind (suc k) d (omega arith) (omega arith);
+    }
+
+-- a page before a run, or behind it, is not in it
+page-below : (c : Block) (page : ℕ) → page < c.first / PAGE → has_page (run_of c) page ≡ false
+page-below c page h = and_left (nat_le (c.first / PAGE) page) (nat_lt page (c.first / PAGE + c.size / PAGE)) (lt-leb (c.first / PAGE) page h)
+
+page-above : (c : Block) (page : ℕ) → c.first / PAGE + c.size / PAGE ≤ page → has_page (run_of c) page ≡ false
+page-above c page h = and_right (nat_le (c.first / PAGE) page) (nat_lt page (c.first / PAGE + c.size / PAGE)) (le-ltb page (c.first / PAGE + c.size / PAGE) h)
+
+pub page-within : (c : Block) (page : ℕ) → c.first / PAGE ≤ page → page < c.first / PAGE + c.size / PAGE → has_page (run_of c) page ≡ true
+page-within c page low high = and_from (nat_le (c.first / PAGE) page) (nat_lt page (c.first / PAGE + c.size / PAGE)) (le-leb (c.first / PAGE) page low) (lt-ltb page (c.first / PAGE + c.size / PAGE) high)
+
+-- no run has a page that is before each
+pub held-none : (bs : List Block) (page : ℕ) → IsPageSplit bs page 0 → list_any (λ b. has_page (run_of b) page) bs ≡ false
+held-none [] page h = refl
+held-none (c ∷ cs) page h =
+    or_from (has_page (run_of c) page) (list_any (λ b. has_page (run_of b) page) cs) (page-below c page (h.behind 0 c (omega arith) (omega arith)))
+    (held-none cs page (record { within = omega arith; before = λ k d low high. absurd (omega arith); behind = λ k d low high. h.behind (suc k) d (omega arith) (omega arith) }))
+
+-- the last that begins at it or before has it, or none
+pub held-not : (end : ℕ) (bs : List Block) (x page k : ℕ) (d : Block) → IsTiled end x bs → IsPageSplit bs page (suc k) → has_page (run_of (get_or bs k d)) page ≡ false → list_any (λ b. has_page (run_of b) page) bs ≡ false
+held-not end [] x page k d h split none = refl
+held-not end (c ∷ cs) x page zero d h split none =
+    or_from (has_page (run_of c) page) (list_any (λ b. has_page (run_of b) page) cs) none (held-none cs page (split-tail c cs page 0 split))
+held-not end (c ∷ []) x page (suc k) d h split none = let within = split.within in absurd (omega arith)
+held-not end (c ∷ e ∷ es) x page (suc k) d h split none =
+    let next : e.first / PAGE ≤ page = split.before 1 e (omega arith) (omega arith) in
+    let after : block_end c ≤ e.first = h.2.0 in
+    let first = h.1.first in
+    let size = h.1.size in
+    or_from (has_page (run_of c) page) (list_any (λ b. has_page (run_of b) page) (e ∷ es))
+    (page-above c page (omega (arith, div-add-mod' c.first PAGE, div-add-mod' c.size PAGE, div-add-mod' e.first PAGE)))
+    (held-not end (e ∷ es) (block_end c) page k d h.2 (split-tail c (e ∷ es) page (suc k) split) none)

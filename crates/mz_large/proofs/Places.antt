@@ -240,7 +240,7 @@ split-tail c cs page i h =
 page-below : (c : Block) (page : ℕ) → page < c.first / PAGE → has_page (run_of c) page ≡ false
 page-below c page h = and_left (nat_le (c.first / PAGE) page) (nat_lt page (c.first / PAGE + c.size / PAGE)) (lt-leb (c.first / PAGE) page h)
 
-page-above : (c : Block) (page : ℕ) → c.first / PAGE + c.size / PAGE ≤ page → has_page (run_of c) page ≡ false
+pub page-above : (c : Block) (page : ℕ) → c.first / PAGE + c.size / PAGE ≤ page → has_page (run_of c) page ≡ false
 page-above c page h = and_right (nat_le (c.first / PAGE) page) (nat_lt page (c.first / PAGE + c.size / PAGE)) (le-ltb page (c.first / PAGE + c.size / PAGE) h)
 
 pub page-within : (c : Block) (page : ℕ) → c.first / PAGE ≤ page → page < c.first / PAGE + c.size / PAGE → has_page (run_of c) page ≡ true

@@ -4,7 +4,8 @@ ghost use Rattle.std.specs.List.{All, AllWithin, HoldsAt, list_any, remove};
 ghost use Rattle.mz_base.specs.Space.{run_at};
 ghost use Rattle.mz_base.specs.declared.range.TheConstants.{PAGE};
 ghost use Rattle.mz_events.specs.Separation.{has_page};
-ghost use Rattle.mz_events.specs.Room.{best_fit};
+ghost use Rattle.mz_events.specs.Room.{best_fit, run_fits};
+ghost use Rattle.mz_large.specs.Best.{fewer_of};
 ghost use Rattle.mz_large.specs.Large.{run_of_span};
 
 use mz_base::PAGE;
@@ -97,18 +98,18 @@ impl Cache {
             (λ i. (i < length self.now) × HoldsAt (λ s. best_fit (map run_of_span self.now) w ≡ Some (run_of_span s)) self.now i) }
     {
         let mut best = None;
-        let mut fewest = 0;
         let mut i = self.spans.len();
         while i > 0 {
             i -= 1;
             let pages = self.spans[i].len() / PAGE;
-            let fits = w <= pages && pages - w < w;
-            if fits && (best.is_none() || pages <= fewest) {
-                best = Some(i);
-                fewest = pages;
+            if fits(pages, w) {
+                best = Some(fewer(best, (i, pages)));
             }
         }
-        best
+        match best {
+            Some((place, _)) => Some(place),
+            None => None,
+        }
     }
 
     /// The place of the run that begins at a page.
@@ -136,5 +137,22 @@ impl Cache {
             }
         }
         None
+    }
+}
+
+// Whether a run of so many pages has `w` and wastes fewer than `w`.
+fn fits(pages: u64, w: u64) -> bool
+    ensures { (f : ℕ) → result ≡ run_fits w (run_at f pages) }
+{
+    w <= pages && pages - w < w
+}
+
+// Of places with their pages the one with fewer; of equals the second.
+fn fewer(best: Option<(usize, u64)>, other: (usize, u64)) -> (usize, u64)
+    ensures { result ≡ fewer_of best other }
+{
+    match best {
+        Some(first) if first.1 < other.1 => first,
+        _ => other,
     }
 }

@@ -5,7 +5,7 @@ use Rattle.std.specs.Bool.{MatchBool}
 use Rattle.std.proofs.lemmas.Option.{same_Some}
 use Rattle.std.specs.List.{All, AllWithin, list_any}
 use Rattle.std.proofs.lemmas.Bool.{cond-false, eqb-true, eq-eqb, ne_eqb, not_from_false, not_from_true, or_left, or_right, and_from, le-leb, false≢true, false_from_ne_true}
-use Rattle.std.proofs.lemmas.List.{map-append, length-append, length-take-le, length-drop, get_or-take, get_or-drop}
+use Rattle.std.proofs.lemmas.List.{take-append-drop, length-map, get_or_default, map-append, length-append, length-take-le, length-drop, get_or-take, get_or-drop}
 use Rattle.std.proofs.lemmas.List.Concat.{flat_map-append}
 use Rattle.std.proofs.lemmas.List.Sums.{sum_by-append}
 use Rattle.std.proofs.lemmas.List.Elements.{All-nil, All-cons, All-head, All-tail, All-weaker, All-append, All-map}
@@ -15,7 +15,7 @@ use Rattle.mz_base.specs.Lists.{insert_by, add_block, size_sum}
 use Rattle.mz_base.specs.Room.{lies_within}
 use Rattle.mz_region.specs.Views.{RegionView, AreInRow, IsRegion}
 use Rattle.mz_events.specs.Standing.{IsOf}
-use Rattle.mz_magazine.specs.Row.{lies_in_row, blocks_within, with_region_at, without_region_at}
+use Rattle.mz_magazine.specs.Row.{RowView, lies_in_row, blocks_within, with_region_at, without_region_at}
 use Rattle.mz_magazine.specs.Members.{space_of, live_of, row_of, AreInOrder, IsKept}
 use Rattle.mz_magazine.proofs.Lists.{insert_between, filter_all, filter_nothing, filter_parts, any_nothing, any_weaker}
 use Rattle.mz_magazine.proofs.Parts.{EndsBefore, BeginsBehind, row_ends, its_blocks, other_blocks}
@@ -268,3 +268,40 @@ false_with false P P' R R' is said f = f said
 pub said_true : (r : Bool) (P R : Type 0) → r ≡ true → MatchBool r P R → P
 said_true true P R is said = said
 said_true false P R is said = absurd (false≢true is)
+
+-- a row with a region more, at the place that a search for it gave
+pub record AddedAt (Q N room bytes count at : ℕ) (ms : List RegionView) (r : RegionView) (v : RowView) : Type 0 where
+  pub done : Inserted Q N room ms bytes count r (take at ms ++ r ∷ drop at ms)
+  pub none : list_any (λ a. a == r.first) v.firsts ≡ false
+  pub few : length ms < room
+
+pub added_at :
+    (Q N room bytes count at first : ℕ) (ms slice : List RegionView) (r : RegionView) (v : RowView) → row_of room ms ≡ v → IsKept Q N room ms bytes count → IsRegion Q N r → slice ≡ ms → first ≡ r.first → at ≤ length slice →
+    AllWithin (λ s. s.first ≤ first) slice 0 at → AllWithin (λ s. first < s.first) slice at (length slice) → (1 ≤ at → (d : RegionView) → (get_or ms (at - 1) d).first ≡ r.first → ⊥) → length v.firsts < v.room → IsOf v.space r.space →
+    AddedAt Q N room bytes count at ms r v
+added_at Q N room bytes count at first ms slice r v view kept is same begins within below above other left of =
+    let inside : at ≤ length ms = subst (λ l. at ≤ length l) same within in
+    let low : AllWithin (λ (s : RegionView). s.first ≤ r.first) ms 0 at = subst (λ x. AllWithin (λ (s : RegionView). s.first ≤ x) ms 0 at) begins (subst (λ l. AllWithin (λ (s : RegionView). s.first ≤ first) l 0 at) same below) in
+    let high : AllWithin (λ (s : RegionView). r.first < s.first) ms at (length ms) = subst (λ x. AllWithin (λ (s : RegionView). x < s.first) ms at (length ms)) begins (subst (λ l. AllWithin (λ (s : RegionView). first < s.first) l at (length l)) same above) in
+    let before = below_strictly Q N ms r.first at kept.order inside low other in
+    let behind = above_all ms r.first at high in
+    let parts = take-append-drop at ms in
+    let long = length-map ms first_of in
+    let room_is = ap (λ (w : RowView). w.room) view in
+    let firsts_are = ap (λ (w : RowView). length w.firsts) view in
+    let whole = ap (λ l. length l) parts in
+    let few : length ms < room = omega arith in
+    let done = inserted Q N room bytes count (take at ms) r (drop at ms)
+    (subst (λ l. IsKept Q N room l bytes count) (sym parts) kept) is
+    (subst (λ o. IsOf o r.space) (sym (ap (λ (w : RowView). w.space) view) ∙ ap space_of (sym parts)) of) (omega arith) before behind in
+    record {
+      done = record { bytes_fit = done.bytes_fit; count_fits = done.count_fits; kept = done.kept; row = done.row ∙ ap (λ l. with_region_at r (row_of room l)) parts };
+      none =
+          ap (λ (w : RowView). list_any (λ a. a == r.first) w.firsts) (sym view) ∙ ap (λ l. list_any (λ a. a == r.first) (map first_of l)) (sym parts)
+          ∙ none_there (take at ms) r.first (drop at ms) before behind;
+      few = few;
+    }
+
+-- the region before the place begins elsewhere
+pub other_at : (ms : List RegionView) (k f a : ℕ) (here : RegionView) → k < length ms → here ≡ get_or ms k here → f ≡ here.first → (f ≡ a → ⊥) → (d : RegionView) → (get_or ms k d).first ≡ a → ⊥
+other_at ms k f a here within is begins differs d same = differs (begins ∙ ap first_of (is ∙ get_or_default ms k here d within) ∙ same)

@@ -10,20 +10,15 @@ use Rattle.mz_magazine.specs.Members.{row_of, space_of, IsKept}
 use Rattle.mz_magazine.proofs.Order.{first_of}
 use Rattle.mz_magazine.specs.Row.{with_region_at}
 use Rattle.mz_events.specs.Standing.{IsOf}
-use Rattle.mz_magazine.proofs.Regions.{space_is, Inserted, inserted, none_there, below_strictly, above_all, one_there}
+use Rattle.mz_magazine.proofs.Regions.{space_is, added_at, other_at, one_there}
 use Rattle.mz_magazine.proofs.row.Row.insert.Goals as goal
 use Rattle.mz_magazine.proofs.row.Row.insert.Goals.{else-i-gt0-via-then-i-gt0+else-first, else-i-gt0-via-else-i-gt0}
 
 pub returns-then-first-clause-inserted : goal.returns-then-first-clause-inserted
 returns-then-first-clause-inserted g c =
     let i = c.self.inside in
-    let ms = i.members.items in
-    let slice = c.as_slice.ensures.value in
-    let at = c.count_below-i.result in
-    let first = c.first.ensures.value in
-    let within : c.count_below-i.result ≤ length i.members.items = subst (λ l. c.count_below-i.result ≤ length l) slice c.count_below-i.ensures.within in
-    let below : AllWithin (λ (r : RegionView). r.first ≤ c.args.r.first) i.members.items 0 c.count_below-i.result = subst (λ x. AllWithin (λ (r : RegionView). r.first ≤ x) i.members.items 0 c.count_below-i.result) first (subst (λ l. AllWithin (λ (r : RegionView). r.first ≤ c.first.result) l 0 c.count_below-i.result) slice c.count_below-i.ensures.below) in
-    let above : AllWithin (λ (r : RegionView). c.args.r.first < r.first) i.members.items c.count_below-i.result (length i.members.items) = subst (λ x. AllWithin (λ (r : RegionView). x < r.first) i.members.items c.count_below-i.result (length i.members.items)) first (subst (λ l. AllWithin (λ (r : RegionView). c.first.result < r.first) l c.count_below-i.result (length l)) slice c.count_below-i.ensures.above) in
+    let within = c.count_below-i.ensures.within in
+    let slice = ap (λ l. length l) c.as_slice.ensures.value in
     let some = c.if-i-gt0.true in
     let same : c.index.result.now.first ≡ c.args.r.first = sym c.first-then-i-gt0.ensures.value ∙ c.if-first.true ∙ c.first-then-i-gt0-2.ensures.value in
     let there = one_there i.members.items (c.count_below-i.result - 1) c.args.r.first c.index.result.now (omega arith) c.index.ensures same in
@@ -32,159 +27,79 @@ returns-then-first-clause-inserted g c =
 pub overflow_add-self : goal.overflow_add-self
 overflow_add-self g c =
     let i = c.self.inside in
-    let ms = i.members.items in
-    let slice = c.as_slice.ensures.value in
     let at = c.count_below-i.result in
-    let first = c.first.ensures.value in
-    let within : c.count_below-i.result ≤ length i.members.items = subst (λ l. c.count_below-i.result ≤ length l) slice c.count_below-i.ensures.within in
-    let below : AllWithin (λ (r : RegionView). r.first ≤ c.args.r.first) i.members.items 0 c.count_below-i.result = subst (λ x. AllWithin (λ (r : RegionView). r.first ≤ x) i.members.items 0 c.count_below-i.result) first (subst (λ l. AllWithin (λ (r : RegionView). r.first ≤ c.first.result) l 0 c.count_below-i.result) slice c.count_below-i.ensures.below) in
-    let above : AllWithin (λ (r : RegionView). c.args.r.first < r.first) i.members.items c.count_below-i.result (length i.members.items) = subst (λ x. AllWithin (λ (r : RegionView). x < r.first) i.members.items c.count_below-i.result (length i.members.items)) first (subst (λ l. AllWithin (λ (r : RegionView). c.first.result < r.first) l c.count_below-i.result (length l)) slice c.count_below-i.ensures.above) in
     let other : 1 ≤ c.count_below-i.result → (d : RegionView) → (get_or i.members.items (c.count_below-i.result - 1) d).first ≡ c.args.r.first → ⊥ =
     elim c.else-i-gt0.branch [
-      | else-i-gt0-via-then-i-gt0+else-first w ↦ λ some d same.
-          let last : w.index.result.now ≡ get_or i.members.items (c.count_below-i.result - 1) d = w.index.ensures ∙ get_or_default i.members.items (c.count_below-i.result - 1) w.index.result.now d (omega arith) in
-          w.if-first.false (w.first-then-i-gt0.ensures.value ∙ ap first_of last ∙ same ∙ sym w.first-then-i-gt0-2.ensures.value)
+      | else-i-gt0-via-then-i-gt0+else-first w ↦ λ some. other_at i.members.items (c.count_below-i.result - 1) w.first-then-i-gt0.result c.args.r.first w.index.result.now (let slice = ap (λ l. length l) c.as_slice.ensures.value in let within = c.count_below-i.ensures.within in omega arith) w.index.ensures w.first-then-i-gt0.ensures.value (λ e. w.if-first.false (e ∙ sym w.first-then-i-gt0-2.ensures.value))
       | else-i-gt0-via-else-i-gt0 w ↦ λ some d same. let none = w.if-i-gt0.false in absurd (omega arith)
     ] in
-    let before = below_strictly g.row.Q g.row.N i.members.items c.args.r.first c.count_below-i.result (c.self.invariant.0).order within below other in
-    let behind = above_all i.members.items c.args.r.first c.count_below-i.result above in
-    let parts = take-append-drop c.count_below-i.result i.members.items in
-    let view_space = ap (λ (v : RowView). v.space) c.self.view_is in
-    let view_room = ap (λ (v : RowView). v.room) c.self.view_is in
-    let view_length = ap (λ (v : RowView). length v.firsts) c.self.view_is in
-    let long = length-map i.members.items first_of in
-    let whole = ap (λ l. length l) parts in
-    let left = c.requires.room in
-    let done : Inserted g.row.Q g.row.N i.most (take c.count_below-i.result i.members.items ++ drop c.count_below-i.result i.members.items) i.live_bytes i.count c.args.r (take c.count_below-i.result i.members.items ++ c.args.r ∷ drop c.count_below-i.result i.members.items) =
-    inserted g.row.Q g.row.N i.most i.live_bytes i.count (take c.count_below-i.result i.members.items) c.args.r (drop c.count_below-i.result i.members.items)
-    (subst (λ l. IsKept g.row.Q g.row.N i.most l i.live_bytes i.count) (sym parts) c.self.invariant.0) c.first.ensures.is
-    (subst (λ o. IsOf o c.args.r.space) (sym view_space ∙ ap space_of (sym parts)) c.requires.space) (omega arith) before behind in
-    let fits = done.bytes_fit in
+    let added =
+    added_at g.row.Q g.row.N i.most i.live_bytes i.count c.count_below-i.result c.first.result i.members.items c.as_slice.result.now c.args.r c.args.self.now c.self.view_is c.self.invariant.0 c.first.ensures.is c.as_slice.ensures.value
+    c.first.ensures.value c.count_below-i.ensures.within c.count_below-i.ensures.below c.count_below-i.ensures.above other c.requires.room c.requires.space in
+    let fits = added.done.bytes_fit in
     let bytes = c.live_bytes-live_bytes.ensures in
     omega arith
 
 pub overflow_add-self-in-Ok : goal.overflow_add-self-in-Ok
 overflow_add-self-in-Ok g c =
     let i = c.self.inside in
-    let ms = i.members.items in
-    let slice = c.as_slice.ensures.value in
     let at = c.count_below-i.result in
-    let first = c.first.ensures.value in
-    let within : c.count_below-i.result ≤ length i.members.items = subst (λ l. c.count_below-i.result ≤ length l) slice c.count_below-i.ensures.within in
-    let below : AllWithin (λ (r : RegionView). r.first ≤ c.args.r.first) i.members.items 0 c.count_below-i.result = subst (λ x. AllWithin (λ (r : RegionView). r.first ≤ x) i.members.items 0 c.count_below-i.result) first (subst (λ l. AllWithin (λ (r : RegionView). r.first ≤ c.first.result) l 0 c.count_below-i.result) slice c.count_below-i.ensures.below) in
-    let above : AllWithin (λ (r : RegionView). c.args.r.first < r.first) i.members.items c.count_below-i.result (length i.members.items) = subst (λ x. AllWithin (λ (r : RegionView). x < r.first) i.members.items c.count_below-i.result (length i.members.items)) first (subst (λ l. AllWithin (λ (r : RegionView). c.first.result < r.first) l c.count_below-i.result (length l)) slice c.count_below-i.ensures.above) in
     let other : 1 ≤ c.count_below-i.result → (d : RegionView) → (get_or i.members.items (c.count_below-i.result - 1) d).first ≡ c.args.r.first → ⊥ =
     elim c.else-i-gt0.branch [
-      | else-i-gt0-via-then-i-gt0+else-first w ↦ λ some d same.
-          let last : w.index.result.now ≡ get_or i.members.items (c.count_below-i.result - 1) d = w.index.ensures ∙ get_or_default i.members.items (c.count_below-i.result - 1) w.index.result.now d (omega arith) in
-          w.if-first.false (w.first-then-i-gt0.ensures.value ∙ ap first_of last ∙ same ∙ sym w.first-then-i-gt0-2.ensures.value)
+      | else-i-gt0-via-then-i-gt0+else-first w ↦ λ some. other_at i.members.items (c.count_below-i.result - 1) w.first-then-i-gt0.result c.args.r.first w.index.result.now (let slice = ap (λ l. length l) c.as_slice.ensures.value in let within = c.count_below-i.ensures.within in omega arith) w.index.ensures w.first-then-i-gt0.ensures.value (λ e. w.if-first.false (e ∙ sym w.first-then-i-gt0-2.ensures.value))
       | else-i-gt0-via-else-i-gt0 w ↦ λ some d same. let none = w.if-i-gt0.false in absurd (omega arith)
     ] in
-    let before = below_strictly g.row.Q g.row.N i.members.items c.args.r.first c.count_below-i.result (c.self.invariant.0).order within below other in
-    let behind = above_all i.members.items c.args.r.first c.count_below-i.result above in
-    let parts = take-append-drop c.count_below-i.result i.members.items in
-    let view_space = ap (λ (v : RowView). v.space) c.self.view_is in
-    let view_room = ap (λ (v : RowView). v.room) c.self.view_is in
-    let view_length = ap (λ (v : RowView). length v.firsts) c.self.view_is in
-    let long = length-map i.members.items first_of in
-    let whole = ap (λ l. length l) parts in
-    let left = c.requires.room in
-    let done : Inserted g.row.Q g.row.N i.most (take c.count_below-i.result i.members.items ++ drop c.count_below-i.result i.members.items) i.live_bytes i.count c.args.r (take c.count_below-i.result i.members.items ++ c.args.r ∷ drop c.count_below-i.result i.members.items) =
-    inserted g.row.Q g.row.N i.most i.live_bytes i.count (take c.count_below-i.result i.members.items) c.args.r (drop c.count_below-i.result i.members.items)
-    (subst (λ l. IsKept g.row.Q g.row.N i.most l i.live_bytes i.count) (sym parts) c.self.invariant.0) c.first.ensures.is
-    (subst (λ o. IsOf o c.args.r.space) (sym view_space ∙ ap space_of (sym parts)) c.requires.space) (omega arith) before behind in
-    let fits = done.count_fits in
+    let added =
+    added_at g.row.Q g.row.N i.most i.live_bytes i.count c.count_below-i.result c.first.result i.members.items c.as_slice.result.now c.args.r c.args.self.now c.self.view_is c.self.invariant.0 c.first.ensures.is c.as_slice.ensures.value
+    c.first.ensures.value c.count_below-i.ensures.within c.count_below-i.ensures.below c.count_below-i.ensures.above other c.requires.room c.requires.space in
+    let fits = added.done.count_fits in
     let number = c.count-count.ensures in
     omega arith
 
 pub invariant_of-self : goal.invariant_of-self
 invariant_of-self g c =
     let i = c.self.inside in
-    let ms = i.members.items in
-    let slice = c.as_slice.ensures.value in
     let at = c.count_below-i.result in
-    let first = c.first.ensures.value in
-    let within : c.count_below-i.result ≤ length i.members.items = subst (λ l. c.count_below-i.result ≤ length l) slice c.count_below-i.ensures.within in
-    let below : AllWithin (λ (r : RegionView). r.first ≤ c.args.r.first) i.members.items 0 c.count_below-i.result = subst (λ x. AllWithin (λ (r : RegionView). r.first ≤ x) i.members.items 0 c.count_below-i.result) first (subst (λ l. AllWithin (λ (r : RegionView). r.first ≤ c.first.result) l 0 c.count_below-i.result) slice c.count_below-i.ensures.below) in
-    let above : AllWithin (λ (r : RegionView). c.args.r.first < r.first) i.members.items c.count_below-i.result (length i.members.items) = subst (λ x. AllWithin (λ (r : RegionView). x < r.first) i.members.items c.count_below-i.result (length i.members.items)) first (subst (λ l. AllWithin (λ (r : RegionView). c.first.result < r.first) l c.count_below-i.result (length l)) slice c.count_below-i.ensures.above) in
     let other : 1 ≤ c.count_below-i.result → (d : RegionView) → (get_or i.members.items (c.count_below-i.result - 1) d).first ≡ c.args.r.first → ⊥ =
     elim c.else-i-gt0.branch [
-      | else-i-gt0-via-then-i-gt0+else-first w ↦ λ some d same.
-          let last : w.index.result.now ≡ get_or i.members.items (c.count_below-i.result - 1) d = w.index.ensures ∙ get_or_default i.members.items (c.count_below-i.result - 1) w.index.result.now d (omega arith) in
-          w.if-first.false (w.first-then-i-gt0.ensures.value ∙ ap first_of last ∙ same ∙ sym w.first-then-i-gt0-2.ensures.value)
+      | else-i-gt0-via-then-i-gt0+else-first w ↦ λ some. other_at i.members.items (c.count_below-i.result - 1) w.first-then-i-gt0.result c.args.r.first w.index.result.now (let slice = ap (λ l. length l) c.as_slice.ensures.value in let within = c.count_below-i.ensures.within in omega arith) w.index.ensures w.first-then-i-gt0.ensures.value (λ e. w.if-first.false (e ∙ sym w.first-then-i-gt0-2.ensures.value))
       | else-i-gt0-via-else-i-gt0 w ↦ λ some d same. let none = w.if-i-gt0.false in absurd (omega arith)
     ] in
-    let before = below_strictly g.row.Q g.row.N i.members.items c.args.r.first c.count_below-i.result (c.self.invariant.0).order within below other in
-    let behind = above_all i.members.items c.args.r.first c.count_below-i.result above in
-    let parts = take-append-drop c.count_below-i.result i.members.items in
-    let view_space = ap (λ (v : RowView). v.space) c.self.view_is in
-    let view_room = ap (λ (v : RowView). v.room) c.self.view_is in
-    let view_length = ap (λ (v : RowView). length v.firsts) c.self.view_is in
-    let long = length-map i.members.items first_of in
-    let whole = ap (λ l. length l) parts in
-    let left = c.requires.room in
-    let done : Inserted g.row.Q g.row.N i.most (take c.count_below-i.result i.members.items ++ drop c.count_below-i.result i.members.items) i.live_bytes i.count c.args.r (take c.count_below-i.result i.members.items ++ c.args.r ∷ drop c.count_below-i.result i.members.items) =
-    inserted g.row.Q g.row.N i.most i.live_bytes i.count (take c.count_below-i.result i.members.items) c.args.r (drop c.count_below-i.result i.members.items)
-    (subst (λ l. IsKept g.row.Q g.row.N i.most l i.live_bytes i.count) (sym parts) c.self.invariant.0) c.first.ensures.is
-    (subst (λ o. IsOf o c.args.r.space) (sym view_space ∙ ap space_of (sym parts)) c.requires.space) (omega arith) before behind in
+    let added =
+    added_at g.row.Q g.row.N i.most i.live_bytes i.count c.count_below-i.result c.first.result i.members.items c.as_slice.result.now c.args.r c.args.self.now c.self.view_is c.self.invariant.0 c.first.ensures.is c.as_slice.ensures.value
+    c.first.ensures.value c.count_below-i.ensures.within c.count_below-i.ensures.below c.count_below-i.ensures.above other c.requires.room c.requires.space in
     let items : c.insert.new.self.items ≡ take c.count_below-i.result i.members.items ++ c.args.r ∷ drop c.count_below-i.result i.members.items =
     c.in-Ok.ensures.items ∙ ap (λ t. take c.count_below-i.result i.members.items ++ t ∷ drop c.count_below-i.result i.members.items) c.new.ensures.value in
     let more = c.in-Ok.ensures.capacity in
     let room = c.self.invariant.1 in (
       subst (λ l. IsKept g.row.Q g.row.N i.most l (i.live_bytes + c.live_bytes-live_bytes.result) (i.count + c.count-count.result)) (sym items)
           (subst (λ m. IsKept g.row.Q g.row.N i.most (take c.count_below-i.result i.members.items ++ c.args.r ∷ drop c.count_below-i.result i.members.items) (i.live_bytes + m) (i.count + c.count-count.result)) (sym c.live_bytes-live_bytes.ensures)
-          (subst (λ m. IsKept g.row.Q g.row.N i.most (take c.count_below-i.result i.members.items ++ c.args.r ∷ drop c.count_below-i.result i.members.items) (i.live_bytes + size_sum c.args.r.live) (i.count + m)) (sym c.count-count.ensures) done.kept)),
+          (subst (λ m. IsKept g.row.Q g.row.N i.most (take c.count_below-i.result i.members.items ++ c.args.r ∷ drop c.count_below-i.result i.members.items) (i.live_bytes + size_sum c.args.r.live) (i.count + m)) (sym c.count-count.ensures) added.done.kept)),
       omega arith,
     )
 
 pub returns-clause-inserted : goal.returns-clause-inserted
 returns-clause-inserted g c =
     let i = c.self.inside in
-    let ms = i.members.items in
-    let slice = c.as_slice.ensures.value in
     let at = c.count_below-i.result in
-    let first = c.first.ensures.value in
-    let within : c.count_below-i.result ≤ length i.members.items = subst (λ l. c.count_below-i.result ≤ length l) slice c.count_below-i.ensures.within in
-    let below : AllWithin (λ (r : RegionView). r.first ≤ c.args.r.first) i.members.items 0 c.count_below-i.result = subst (λ x. AllWithin (λ (r : RegionView). r.first ≤ x) i.members.items 0 c.count_below-i.result) first (subst (λ l. AllWithin (λ (r : RegionView). r.first ≤ c.first.result) l 0 c.count_below-i.result) slice c.count_below-i.ensures.below) in
-    let above : AllWithin (λ (r : RegionView). c.args.r.first < r.first) i.members.items c.count_below-i.result (length i.members.items) = subst (λ x. AllWithin (λ (r : RegionView). x < r.first) i.members.items c.count_below-i.result (length i.members.items)) first (subst (λ l. AllWithin (λ (r : RegionView). c.first.result < r.first) l c.count_below-i.result (length l)) slice c.count_below-i.ensures.above) in
     let other : 1 ≤ c.count_below-i.result → (d : RegionView) → (get_or i.members.items (c.count_below-i.result - 1) d).first ≡ c.args.r.first → ⊥ =
     elim c.else-i-gt0.branch [
-      | else-i-gt0-via-then-i-gt0+else-first w ↦ λ some d same.
-          let last : w.index.result.now ≡ get_or i.members.items (c.count_below-i.result - 1) d = w.index.ensures ∙ get_or_default i.members.items (c.count_below-i.result - 1) w.index.result.now d (omega arith) in
-          w.if-first.false (w.first-then-i-gt0.ensures.value ∙ ap first_of last ∙ same ∙ sym w.first-then-i-gt0-2.ensures.value)
+      | else-i-gt0-via-then-i-gt0+else-first w ↦ λ some. other_at i.members.items (c.count_below-i.result - 1) w.first-then-i-gt0.result c.args.r.first w.index.result.now (let slice = ap (λ l. length l) c.as_slice.ensures.value in let within = c.count_below-i.ensures.within in omega arith) w.index.ensures w.first-then-i-gt0.ensures.value (λ e. w.if-first.false (e ∙ sym w.first-then-i-gt0-2.ensures.value))
       | else-i-gt0-via-else-i-gt0 w ↦ λ some d same. let none = w.if-i-gt0.false in absurd (omega arith)
     ] in
-    let before = below_strictly g.row.Q g.row.N i.members.items c.args.r.first c.count_below-i.result (c.self.invariant.0).order within below other in
-    let behind = above_all i.members.items c.args.r.first c.count_below-i.result above in
-    let parts = take-append-drop c.count_below-i.result i.members.items in
-    let view_space = ap (λ (v : RowView). v.space) c.self.view_is in
-    let view_room = ap (λ (v : RowView). v.room) c.self.view_is in
-    let view_length = ap (λ (v : RowView). length v.firsts) c.self.view_is in
-    let long = length-map i.members.items first_of in
-    let whole = ap (λ l. length l) parts in
-    let left = c.requires.room in
-    let done : Inserted g.row.Q g.row.N i.most (take c.count_below-i.result i.members.items ++ drop c.count_below-i.result i.members.items) i.live_bytes i.count c.args.r (take c.count_below-i.result i.members.items ++ c.args.r ∷ drop c.count_below-i.result i.members.items) =
-    inserted g.row.Q g.row.N i.most i.live_bytes i.count (take c.count_below-i.result i.members.items) c.args.r (drop c.count_below-i.result i.members.items)
-    (subst (λ l. IsKept g.row.Q g.row.N i.most l i.live_bytes i.count) (sym parts) c.self.invariant.0) c.first.ensures.is
-    (subst (λ o. IsOf o c.args.r.space) (sym view_space ∙ ap space_of (sym parts)) c.requires.space) (omega arith) before behind in
+    let added =
+    added_at g.row.Q g.row.N i.most i.live_bytes i.count c.count_below-i.result c.first.result i.members.items c.as_slice.result.now c.args.r c.args.self.now c.self.view_is c.self.invariant.0 c.first.ensures.is c.as_slice.ensures.value
+    c.first.ensures.value c.count_below-i.ensures.within c.count_below-i.ensures.below c.count_below-i.ensures.above other c.requires.room c.requires.space in
     let items : c.insert.new.self.items ≡ take c.count_below-i.result i.members.items ++ c.args.r ∷ drop c.count_below-i.result i.members.items =
     c.in-Ok.ensures.items ∙ ap (λ t. take c.count_below-i.result i.members.items ++ t ∷ drop c.count_below-i.result i.members.items) c.new.ensures.value in
-    let none : list_any (λ a. a == c.args.r.first) c.args.self.now.firsts ≡ false =
-    ap (λ (v : RowView). list_any (λ a. a == c.args.r.first) v.firsts) (sym c.self.view_is) ∙ ap (λ l. list_any (λ a. a == c.args.r.first) (map first_of l)) (sym parts)
-    ∙ none_there (take c.count_below-i.result i.members.items) c.args.r.first (drop c.count_below-i.result i.members.items) before behind in
-    ap (row_of i.most) items ∙ done.row ∙ ap (with_region_at c.args.r) (ap (row_of i.most) parts ∙ c.self.view_is)
-    ∙ sym (cond-false (list_any (λ a. a == c.args.r.first) c.args.self.now.firsts) c.args.self.now (with_region_at c.args.r c.args.self.now) none)
+    ap (row_of i.most) items ∙ added.done.row ∙ ap (with_region_at c.args.r) c.self.view_is
+    ∙ sym (cond-false (list_any (λ a. a == c.args.r.first) c.args.self.now.firsts) c.args.self.now (with_region_at c.args.r c.args.self.now) added.none)
 
 pub returns-then-first-clause-space : goal.returns-then-first-clause-space
 returns-then-first-clause-space g c =
     let i = c.self.inside in
-    let ms = i.members.items in
-    let slice = c.as_slice.ensures.value in
-    let at = c.count_below-i.result in
-    let first = c.first.ensures.value in
-    let within : c.count_below-i.result ≤ length i.members.items = subst (λ l. c.count_below-i.result ≤ length l) slice c.count_below-i.ensures.within in
-    let below : AllWithin (λ (r : RegionView). r.first ≤ c.args.r.first) i.members.items 0 c.count_below-i.result = subst (λ x. AllWithin (λ (r : RegionView). r.first ≤ x) i.members.items 0 c.count_below-i.result) first (subst (λ l. AllWithin (λ (r : RegionView). r.first ≤ c.first.result) l 0 c.count_below-i.result) slice c.count_below-i.ensures.below) in
-    let above : AllWithin (λ (r : RegionView). c.args.r.first < r.first) i.members.items c.count_below-i.result (length i.members.items) = subst (λ x. AllWithin (λ (r : RegionView). x < r.first) i.members.items c.count_below-i.result (length i.members.items)) first (subst (λ l. AllWithin (λ (r : RegionView). c.first.result < r.first) l c.count_below-i.result (length l)) slice c.count_below-i.ensures.above) in
+    let within = c.count_below-i.ensures.within in
+    let slice = ap (λ l. length l) c.as_slice.ensures.value in
     let some = c.if-i-gt0.true in
     let same : c.index.result.now.first ≡ c.args.r.first = sym c.first-then-i-gt0.ensures.value ∙ c.if-first.true ∙ c.first-then-i-gt0-2.ensures.value in
     let one = (c.self.invariant.0).one_space (c.count_below-i.result - 1) c.index.result.now (omega arith) in
@@ -194,36 +109,18 @@ returns-then-first-clause-space g c =
 pub returns-clause-space : goal.returns-clause-space
 returns-clause-space g c =
     let i = c.self.inside in
-    let ms = i.members.items in
-    let slice = c.as_slice.ensures.value in
     let at = c.count_below-i.result in
-    let first = c.first.ensures.value in
-    let within : c.count_below-i.result ≤ length i.members.items = subst (λ l. c.count_below-i.result ≤ length l) slice c.count_below-i.ensures.within in
-    let below : AllWithin (λ (r : RegionView). r.first ≤ c.args.r.first) i.members.items 0 c.count_below-i.result = subst (λ x. AllWithin (λ (r : RegionView). r.first ≤ x) i.members.items 0 c.count_below-i.result) first (subst (λ l. AllWithin (λ (r : RegionView). r.first ≤ c.first.result) l 0 c.count_below-i.result) slice c.count_below-i.ensures.below) in
-    let above : AllWithin (λ (r : RegionView). c.args.r.first < r.first) i.members.items c.count_below-i.result (length i.members.items) = subst (λ x. AllWithin (λ (r : RegionView). x < r.first) i.members.items c.count_below-i.result (length i.members.items)) first (subst (λ l. AllWithin (λ (r : RegionView). c.first.result < r.first) l c.count_below-i.result (length l)) slice c.count_below-i.ensures.above) in
     let other : 1 ≤ c.count_below-i.result → (d : RegionView) → (get_or i.members.items (c.count_below-i.result - 1) d).first ≡ c.args.r.first → ⊥ =
     elim c.else-i-gt0.branch [
-      | else-i-gt0-via-then-i-gt0+else-first w ↦ λ some d same.
-          let last : w.index.result.now ≡ get_or i.members.items (c.count_below-i.result - 1) d = w.index.ensures ∙ get_or_default i.members.items (c.count_below-i.result - 1) w.index.result.now d (omega arith) in
-          w.if-first.false (w.first-then-i-gt0.ensures.value ∙ ap first_of last ∙ same ∙ sym w.first-then-i-gt0-2.ensures.value)
+      | else-i-gt0-via-then-i-gt0+else-first w ↦ λ some. other_at i.members.items (c.count_below-i.result - 1) w.first-then-i-gt0.result c.args.r.first w.index.result.now (let slice = ap (λ l. length l) c.as_slice.ensures.value in let within = c.count_below-i.ensures.within in omega arith) w.index.ensures w.first-then-i-gt0.ensures.value (λ e. w.if-first.false (e ∙ sym w.first-then-i-gt0-2.ensures.value))
       | else-i-gt0-via-else-i-gt0 w ↦ λ some d same. let none = w.if-i-gt0.false in absurd (omega arith)
     ] in
-    let before = below_strictly g.row.Q g.row.N i.members.items c.args.r.first c.count_below-i.result (c.self.invariant.0).order within below other in
-    let behind = above_all i.members.items c.args.r.first c.count_below-i.result above in
-    let parts = take-append-drop c.count_below-i.result i.members.items in
-    let view_space = ap (λ (v : RowView). v.space) c.self.view_is in
-    let view_room = ap (λ (v : RowView). v.room) c.self.view_is in
-    let view_length = ap (λ (v : RowView). length v.firsts) c.self.view_is in
-    let long = length-map i.members.items first_of in
-    let whole = ap (λ l. length l) parts in
-    let left = c.requires.room in
-    let done : Inserted g.row.Q g.row.N i.most (take c.count_below-i.result i.members.items ++ drop c.count_below-i.result i.members.items) i.live_bytes i.count c.args.r (take c.count_below-i.result i.members.items ++ c.args.r ∷ drop c.count_below-i.result i.members.items) =
-    inserted g.row.Q g.row.N i.most i.live_bytes i.count (take c.count_below-i.result i.members.items) c.args.r (drop c.count_below-i.result i.members.items)
-    (subst (λ l. IsKept g.row.Q g.row.N i.most l i.live_bytes i.count) (sym parts) c.self.invariant.0) c.first.ensures.is
-    (subst (λ o. IsOf o c.args.r.space) (sym view_space ∙ ap space_of (sym parts)) c.requires.space) (omega arith) before behind in
+    let added =
+    added_at g.row.Q g.row.N i.most i.live_bytes i.count c.count_below-i.result c.first.result i.members.items c.as_slice.result.now c.args.r c.args.self.now c.self.view_is c.self.invariant.0 c.first.ensures.is c.as_slice.ensures.value
+    c.first.ensures.value c.count_below-i.ensures.within c.count_below-i.ensures.below c.count_below-i.ensures.above other c.requires.room c.requires.space in
     let items : c.insert.new.self.items ≡ take c.count_below-i.result i.members.items ++ c.args.r ∷ drop c.count_below-i.result i.members.items =
     c.in-Ok.ensures.items ∙ ap (λ t. take c.count_below-i.result i.members.items ++ t ∷ drop c.count_below-i.result i.members.items) c.new.ensures.value in
-    ap (λ (v : RowView). v.space) (ap (row_of i.most) items ∙ done.row)
+    ap (λ (v : RowView). v.space) (ap (row_of i.most) items ∙ added.done.row)
 
 pub returns-clause-room : goal.returns-clause-room
 returns-clause-room g c = ap (λ (v : RowView). v.room) c.self.view_is

@@ -73,8 +73,7 @@ best-here spans w i (Some q) s h is yes =
               λ d.
                   let both = was.1 d in
                   let u = run_of_span (get_or spans q.0 d) in
-                  let less : nat_lt (run_of_span (get_or spans q.0 d)).pages (run_of_span s).pages ≡ true = ap (λ n. nat_lt n (run_of_span s).pages) both.1 ∙ fewer in
-                  (
+                  let less : nat_lt (run_of_span (get_or spans q.0 d)).pages (run_of_span s).pages ≡ true = ap (λ n. nat_lt n (run_of_span s).pages) both.1 ∙ fewer in (
                     whole ∙ ap (λ o. Some (better (run_of_span s) o)) both.0 ∙ ap Some (cond-true (nat_lt (run_of_span (get_or spans q.0 d)).pages (run_of_span s).pages) (run_of_span (get_or spans q.0 d)) (run_of_span s) less),
                     both.1,
                   ),
@@ -85,8 +84,7 @@ best-here spans w i (Some q) s h is yes =
               λ d.
                   let both = was.1 d in
                   let here : s ≡ get_or spans i d = is ∙ get_or_default spans i s d (omega arith) in
-                  let less : nat_lt (run_of_span (get_or spans q.0 d)).pages (run_of_span s).pages ≡ false = ap (λ n. nat_lt n (run_of_span s).pages) both.1 ∙ no_fewer in
-                  (
+                  let less : nat_lt (run_of_span (get_or spans q.0 d)).pages (run_of_span s).pages ≡ false = ap (λ n. nat_lt n (run_of_span s).pages) both.1 ∙ no_fewer in (
                     whole ∙ ap (λ o. Some (better (run_of_span s) o)) both.0
                         ∙ ap Some (cond-false (nat_lt (run_of_span (get_or spans q.0 d)).pages (run_of_span s).pages) (run_of_span (get_or spans q.0 d)) (run_of_span s) less)
                         ∙ ap (λ t. Some (run_of_span t)) here,

@@ -124,10 +124,10 @@ impl Large {
         requires { IsOf self.old.space s.space }
         ensures { let b = block_of s in MatchResult result
             (λ pushed. IsTrue (has_block self.old.kept.live b) × ((q : place) → IsTrue (is_large q) →
-                let freed = record self.old { space = Some s.space; kept = without_block q b self.old.kept } in
-                MatchOption pushed ((length self.old.kept.cached < 16) × (self.new ≡ freed))
-                (λ t. (length self.old.kept.cached ≡ 16) × IsCached self.old t × (freed.kept.cached ≡ run_of_span t ∷ self.new.kept.cached)
-                × (self.new ≡ record freed { kept = without_run (run_of_span t) freed.kept }))))
+            let freed = record self.old { space = Some s.space; kept = without_block q b self.old.kept } in
+            MatchOption pushed ((length self.old.kept.cached < 16) × (self.new ≡ freed))
+            (λ t. (length self.old.kept.cached ≡ 16) × IsCached self.old t × (freed.kept.cached ≡ run_of_span t ∷ self.new.kept.cached)
+            × (self.new ≡ record freed { kept = without_run (run_of_span t) freed.kept }))))
             (λ t. ¬ IsTrue (has_block self.old.kept.live b) × (self.new ≡ self.old) × (t ≡ s)) }
     {
         if self.live.remove(Block::of(&s)) {

@@ -33,13 +33,19 @@ fn the_best_fit_serves_and_of_equals_the_one_freed_first(rt: HostRuntime) -> Res
     assert_eq!(rt; large.count(), 4);
     assert_eq!(rt; large.size_at(6 * 16_384), 65_536);
     assert_eq!(rt; large.size_at(6 * 16_384 + 1), 0);
-    assert_eq!(rt; (large.run_of(5), large.run_of(9), large.run_of(23)), (Some((0, 6)), Some((6, 4)), None));
+    assert_eq!(rt;
+        (large.run_of(5), large.run_of(9), large.run_of(23)),
+        (Some((0, 6)), Some((6, 4)), None)
+    );
     for span in [d, c, b, a] {
         let freed = large.free(span);
         assert!(rt; matches!(freed, Ok(None)));
     }
     assert_eq!(rt; large.count(), 0);
-    assert_eq!(rt; (large.run_of(5), large.run_of(9), large.run_of(23)), (Some((0, 6)), Some((6, 4)), None));
+    assert_eq!(rt;
+        (large.run_of(5), large.run_of(9), large.run_of(23)),
+        (Some((0, 6)), Some((6, 4)), None)
+    );
     // Cached are (19, 4), (10, 9), (6, 4) and (0, 6), in this order.
     assert_eq!(rt; pages_of(large.reuse(10)), None);
     assert_eq!(rt; pages_of(large.reuse(3)), Some((19, 4)));
@@ -64,7 +70,11 @@ fn the_seventeenth_freed_run_pushes_out_the_first(rt: HostRuntime) -> Result<(),
         let Ok(out) = large.free(run) else {
             return Err(Fail::new("the block is live"));
         };
-        let wanted = if i < 16 { None } else { Some((3 * (i - 16), 3)) };
+        let wanted = if i < 16 {
+            None
+        } else {
+            Some((3 * (i - 16), 3))
+        };
         assert_eq!(rt; pages_of(out), wanted);
     }
     assert_eq!(rt; (large.run_of(5), large.run_of(6)), (None, Some((6, 3))));

@@ -1,15 +1,12 @@
-use Rattle.std.proofs.Common.{◌≡◌, ◌+◌, ◌-◌, ◌<◌, ◌≤◌, ◌∷◌, ◌++◌, false, Some, length, map, get_or, take, drop, sym, ap, ◌∙◌, subst, arith}
+use Rattle.std.proofs.Common.{◌≡◌, ◌+◌, ◌-◌, ◌≤◌, ◌∷◌, ◌++◌, Some, length, get_or, take, drop, sym, ap, ◌∙◌, subst, arith}
 use Rattle.std.specs.Prelude.{◌==◌}
-use Rattle.std.specs.List.{list_any, AllWithin}
+use Rattle.std.specs.List.{list_any}
 use Rattle.std.proofs.lemmas.Bool.{cond-true, cond-false}
-use Rattle.std.proofs.lemmas.List.{get_or_default, take-append-drop, length-map}
 use Rattle.mz_base.specs.Lists.{size_sum}
 use Rattle.mz_region.specs.Views.{RegionView}
 use Rattle.mz_magazine.specs.Row.{RowView}
-use Rattle.mz_magazine.specs.Members.{row_of, space_of, IsKept}
-use Rattle.mz_magazine.proofs.Order.{first_of}
+use Rattle.mz_magazine.specs.Members.{row_of, IsKept}
 use Rattle.mz_magazine.specs.Row.{with_region_at}
-use Rattle.mz_events.specs.Standing.{IsOf}
 use Rattle.mz_magazine.proofs.Regions.{space_is, added_at, other_at, one_there}
 use Rattle.mz_magazine.proofs.row.Row.insert.Goals as goal
 use Rattle.mz_magazine.proofs.row.Row.insert.Goals.{else-i-gt0-via-then-i-gt0+else-first, else-i-gt0-via-else-i-gt0}

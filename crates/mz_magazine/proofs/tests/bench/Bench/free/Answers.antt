@@ -1,8 +1,7 @@
-use Rattle.std.proofs.Common.{◌≡◌, suc, ◌≤◌, take, drop, sym, ◌∙◌, subst}
+use Rattle.std.proofs.Common.{◌≡◌, suc, take, drop, sym, ◌∙◌, subst}
 use Rattle.std.specs.List.{All, remove}
 use Rattle.std.proofs.lemmas.List.Elements.{All-append, All-take, All-drop, All-same}
 use Rattle.mz_base.specs.Site.{Site}
-use Rattle.mz_base.specs.Space.{block_at}
 use Rattle.mz_ground.specs.Views.{SpanView}
 use Rattle.mz_events.specs.Standing.{IsOf}
 use Rattle.mz_magazine.proofs.Tested.{free_stays}

@@ -34,10 +34,10 @@ split-at spans i s within is = ap (map run_of_span) (drop-cons spans i s within)
 
 -- a run that doesn't fit changes nothing
 pub best-past : (spans : List SpanView) (w i : ℕ) (best : Option (ℕ × ℕ)) (s : SpanView) → IsBestFrom spans w (suc i) best → s ≡ get_or spans i s → run_fits w (run_of_span s) ≡ false → IsBestFrom spans w i best
-best-past spans w i best s h is no =
+best-past spans w i best s h is other =
     let within = h.within in
     let same : best_fit (map run_of_span (drop i spans)) w ≡ best_fit (map run_of_span (drop (suc i) spans)) w =
-    ap (λ l. best_fit l w) (split-at spans i s (omega arith) is) ∙ best-not (run_of_span s) (map run_of_span (drop (suc i) spans)) w no in
+    ap (λ l. best_fit l w) (split-at spans i s (omega arith) is) ∙ best-not (run_of_span s) (map run_of_span (drop (suc i) spans)) w other in
     record {
       within = omega arith;
       says = subst (λ o. MatchOption best (o ≡ None) (λ p. (p.0 < length spans) × HoldsAt (λ t. (o ≡ Some (run_of_span t)) × ((run_of_span t).pages ≡ p.1)) spans p.0)) (sym same) h.says;
@@ -45,10 +45,10 @@ best-past spans w i best s h is no =
 
 -- one that fits is the best, or the one that was stays
 pub best-here : (spans : List SpanView) (w i : ℕ) (best : Option (ℕ × ℕ)) (s : SpanView) → IsBestFrom spans w (suc i) best → s ≡ get_or spans i s → run_fits w (run_of_span s) ≡ true → IsBestFrom spans w i (Some (fewer_of best (i, (run_of_span s).pages)))
-best-here spans w i None s h is yes =
+best-here spans w i None s h is fit =
     let within = h.within in
     let whole : best_fit (map run_of_span (drop i spans)) w ≡ Some (better (run_of_span s) (best_fit (map run_of_span (drop (suc i) spans)) w)) =
-    ap (λ l. best_fit l w) (split-at spans i s (omega arith) is) ∙ best-fits (run_of_span s) (map run_of_span (drop (suc i) spans)) w yes in
+    ap (λ l. best_fit l w) (split-at spans i s (omega arith) is) ∙ best-fits (run_of_span s) (map run_of_span (drop (suc i) spans)) w fit in
     record {
       within = omega arith;
       says = (
@@ -58,11 +58,11 @@ best-here spans w i None s h is yes =
             (whole ∙ ap (λ o. Some (better (run_of_span s) o)) h.says ∙ ap (λ t. Some (run_of_span t)) here, ap (λ t. (run_of_span t).pages) (sym here)),
       );
     }
-best-here spans w i (Some q) s h is yes =
+best-here spans w i (Some q) s h is fit =
     let within = h.within in
     let was = h.says in
     let whole : best_fit (map run_of_span (drop i spans)) w ≡ Some (better (run_of_span s) (best_fit (map run_of_span (drop (suc i) spans)) w)) =
-    ap (λ l. best_fit l w) (split-at spans i s (omega arith) is) ∙ best-fits (run_of_span s) (map run_of_span (drop (suc i) spans)) w yes in
+    ap (λ l. best_fit l w) (split-at spans i s (omega arith) is) ∙ best-fits (run_of_span s) (map run_of_span (drop (suc i) spans)) w fit in
     let P : ℕ × ℕ → Type 0 = λ p. (p.0 < length spans) × HoldsAt (λ t. (best_fit (map run_of_span (drop i spans)) w ≡ Some (run_of_span t)) × ((run_of_span t).pages ≡ p.1)) spans p.0 in
     record {
       within = omega arith;

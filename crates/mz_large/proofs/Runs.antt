@@ -57,7 +57,7 @@ add-comm b c bs other =
     ]
   where
     ne_less : (x y : ℕ) → x ≤ y → (y ≡ x → ⊥) → x < y
-    ne_less x y order no = omega arith
+    ne_less x y order differs = omega arith
 
 -- a live block more is a run's block more
 pub all-add : (live : List Block) (cs : List SpanView) (b : Block) → All (λ s. b.first ≡ s.first → ⊥) cs → all_blocks (add_block b live) cs ≡ add_block b (all_blocks live cs)

@@ -1,0 +1,4 @@
+pub mod Tiled
+pub mod Places
+pub mod Fits
+pub mod Runs

@@ -2,3 +2,5 @@ pub mod Tiled
 pub mod Places
 pub mod Fits
 pub mod Runs
+pub mod OneOut
+pub mod Keeping

@@ -123,15 +123,6 @@ place-found ys f i within parts =
       behind = λ k d low high. ltb-false (get_or ys k d).first f (parts.1 k d low high);
     }
 
--- tiled blocks are no more than there are pages
-pub tiled-few : (end : ℕ) (bs : List Block) (x : ℕ) → IsTiled end x bs → x + PAGE * length bs ≤ end
-tiled-few end [] x h = omega (arith, h)
-tiled-few end (b ∷ bs) x h =
-    let low = h.0 in
-    let some = h.1.some in
-    let rest = tiled-few end bs (block_end b) h.2 in
-    omega arith
-
 -- a block that is there stands at its place
 pub found-there : (end : ℕ) (bs : List Block) (x : ℕ) (b : Block) (i : ℕ) (d : Block) → IsTiled end x bs → IsPlaceOf bs b.first i → has_block bs b ≡ true → (i < length bs) × (get_or bs i d ≡ b)
 found-there end [] x b i d h place among = absurd (false≢true among)

@@ -12,17 +12,17 @@ use Rattle.mz_ground.specs.Views.{SpanView}
 use Rattle.mz_events.specs.Changes.{run_of}
 use Rattle.mz_large.specs.Blocks.{IsPaged, IsTiled}
 use Rattle.mz_large.specs.Large.{block_of, run_of_span, space_of, all_blocks}
-use Rattle.mz_large.proofs.Tiled.{tiled-all, tiled-lower, tiled-member, tiled-drop, apart_below, apart_above, blocks_apart-comm, same_block-true, same_block-refl}
+use Rattle.mz_large.proofs.Tiled.{tiled-all, tiled-lower, tiled-member, drop-first, drop-later, apart_below, apart_above, blocks_apart-comm, same_block-true, same_block-refl}
 
-add-here : (b c : Block) (cs : List Block) → b.first < c.first → add_block b (c ∷ cs) ≡ b ∷ c ∷ cs
+pub add-here : (b c : Block) (cs : List Block) → b.first < c.first → add_block b (c ∷ cs) ≡ b ∷ c ∷ cs
 unfolding insert_by
 add-here b c cs low = cond-true (nat_lt b.first c.first) (b ∷ c ∷ cs) (c ∷ add_block b cs) (lt-ltb b.first c.first low)
 
-add-later : (b c : Block) (cs : List Block) → c.first ≤ b.first → add_block b (c ∷ cs) ≡ c ∷ add_block b cs
+pub add-later : (b c : Block) (cs : List Block) → c.first ≤ b.first → add_block b (c ∷ cs) ≡ c ∷ add_block b cs
 unfolding insert_by
 add-later b c cs high = cond-false (nat_lt b.first c.first) (b ∷ c ∷ cs) (c ∷ add_block b cs) (le-ltb b.first c.first high)
 
-add-nil : (b : Block) → add_block b [] ≡ b ∷ []
+pub add-nil : (b : Block) → add_block b [] ≡ b ∷ []
 unfolding insert_by
 add-nil b = refl
 
@@ -217,20 +217,8 @@ apart-runs end x b (c ∷ cs) own h apart =
     and_from (blocks_apart c b) (list_all (λ d. blocks_apart d b) cs) (apart-run c b h.1 own parts.0) (apart-runs end (block_end c) b cs own h.2 parts.1)
 
 -- blocks of some bytes that are apart are not one
-apart-other : (b c : Block) → 1 ≤ b.size → 1 ≤ c.size → blocks_apart c b ≡ true → same_block b c ≡ false
+pub apart-other : (b c : Block) → 1 ≤ b.size → 1 ≤ c.size → blocks_apart c b ≡ true → same_block b c ≡ false
 apart-other b c own other h = and_left (b.first == c.first) (b.size == c.size) (ne_eqb b.first c.first (λ e. apart-differ c b other own h (sym e)))
-
--- a cached run apart from the block stays cached
-pub cached-stay : (b : Block) (cs : List SpanView) → 1 ≤ b.size → All (λ s. IsPaged (block_of s)) cs → All (λ s. blocks_apart (block_of s) b ≡ true) cs → filter (λ r. not (same_block b (bytes_of r))) (map run_of_span cs) ≡ map run_of_span cs
-cached-stay b [] own paged apart = refl
-cached-stay b (s ∷ ss) own paged apart =
-    let P : SpanView → Type 0 = λ t. IsPaged (block_of t) in
-    let A : SpanView → Type 0 = λ t. blocks_apart (block_of t) b ≡ true in
-    let here = All-head P s ss paged in
-    let some = here.some in
-    let other : same_block b (bytes_of (run_of_span s)) ≡ false = ap (same_block b) (whole-bytes (block_of s) here) ∙ apart-other b (block_of s) own (omega arith) (All-head A s ss apart) in
-    cond-true (not (same_block b (bytes_of (run_of_span s)))) (run_of_span s ∷ filter (λ r. not (same_block b (bytes_of r))) (map run_of_span ss)) (filter (λ r. not (same_block b (bytes_of r))) (map run_of_span ss)) (ap not other)
-    ∙ ap (λ l. run_of_span s ∷ l) (cached-stay b ss own (All-tail P s ss paged) (All-tail A s ss apart))
 
 -- cached runs are whole pages
 pub cached-paged : (end : ℕ) (live : List Block) (cs : List SpanView) → IsTiled end 0 (all_blocks live cs) → All (λ s. IsPaged (block_of s)) cs
@@ -238,3 +226,24 @@ cached-paged end live [] h = All-nil (λ (s : SpanView). IsPaged (block_of s))
 cached-paged end live (s ∷ ss) h =
     All-cons (λ (t : SpanView). IsPaged (block_of t)) s ss (tiled-member end (add_block (block_of s) live) 0 (block_of s) (live-tiled end (add_block (block_of s) live) ss h) (has-added (block_of s) live)).paged
     (cached-paged end (add_block (block_of s) live) ss h)
+
+-- one that is dropped and added again
+add-front : (end : ℕ) (b : Block) (bs : List Block) → IsPaged b → IsTiled end (block_end b) bs → add_block b bs ≡ b ∷ bs
+add-front end b [] own h = add-nil b
+add-front end b (c ∷ cs) own h =
+    let some = own.some in
+    let low = h.0 in
+    add-here b c cs (omega arith)
+
+pub dropped-added : (end : ℕ) (bs : List Block) (x : ℕ) (b : Block) → IsTiled end x bs → has_block bs b ≡ true → add_block b (drop_block b bs) ≡ bs
+dropped-added end [] x b h among = absurd (false≢true among)
+dropped-added end (c ∷ cs) x b h among =
+    elim (or_cases (same_block b c) (has_block cs b) among) [
+      | inl here ↦
+          subst (λ d. add_block d (drop_block d (c ∷ cs)) ≡ c ∷ cs) (sym (same_block-true b c here))
+          (ap (add_block c) (drop-first end c cs x h) ∙ add-front end c cs h.1 h.2)
+      | inr later ↦
+          let some = h.1.some in
+          let low = (tiled-member end cs (block_end c) b h.2 later).low in
+          ap (add_block b) (drop-later end c cs x b h (omega arith)) ∙ add-later b c (drop_block b cs) (omega arith) ∙ ap (λ l. c ∷ l) (dropped-added end cs (block_end c) b h.2 later)
+    ]

@@ -1,4 +1,4 @@
--- Blocks of whole pages in the order of their addresses, below the end of some pages. This project's own.
+-- Blocks of whole pages in the order of their addresses. This project's own.
 use Rattle.std.specs.Prelude.{◌≡◌, ℕ, ◌*◌, ◌%◌, ◌<◌, ◌≤◌, List, [], ◌∷◌, length, refl}
 use Rattle.std.specs.List.{AllWithin}
 use Rattle.std.specs.Coded.{Coded, code_by, coded×, coded_list, coded_ℕ}
@@ -18,14 +18,14 @@ abbrev pub IsTiled : ℕ → ℕ → List Block → Type 0
 IsTiled end x [] = x ≤ end
 IsTiled end x (b ∷ bs) = (x ≤ b.first) × IsPaged b × IsTiled end (block_end b) bs
 
--- blocks, and how many pages there are
+-- blocks, and for how many there is room
 pub record BlocksView : Type 0 where
-  pub pages : ℕ
+  pub room : ℕ
   pub blocks : List Block
 
 -- they are stored as the pair of these
 abbrev pub blocks_code : Coded BlocksView
-blocks_code = code_by (ℕ × List Block) (coded× coded_ℕ (coded_list block_code)) (λ v. (v.pages, v.blocks)) (λ p. record { pages = p.0; blocks = p.1 }) (λ _. refl)
+blocks_code = code_by (ℕ × List Block) (coded× coded_ℕ (coded_list block_code)) (λ v. (v.room, v.blocks)) (λ p. record { room = p.0; blocks = p.1 }) (λ _. refl)
 
 -- The blocks with a first address below t stand before the place, and the others behind it.
 pub record IsPlaceOf (blocks : List Block) (t place : ℕ) : Type 0 where

@@ -1,18 +1,18 @@
 //! Large of a zone.
-ghost use Rattle.std.specs.Prelude.{◌≡◌, ℕ, ◌+◌, ◌*◌, ◌/◌, ◌%◌, ◌<◌, ◌≤◌, ◌==◌, [], ◌∷◌, length, map, Some, None, true, false, IsTrue, IfOk, MatchOption, MatchResult, if◌then◌else◌};
+ghost use Rattle.std.specs.Prelude.{◌≡◌, ◌<◌, ◌==◌, [], ◌∷◌, length, find, Some, None, IsTrue, IfOk, MatchOption, MatchResult};
+ghost use Rattle.std.specs.Option.{option_map};
 ghost use Rattle.std.specs.List.{list_any, list_all};
-ghost use Rattle.mz_base.specs.declared.range.TheConstants.{PAGE};
-ghost use Rattle.mz_base.specs.Space.{block_end, runs_apart, run_at};
+ghost use Rattle.mz_base.specs.Space.{runs_apart};
 ghost use Rattle.mz_base.specs.Lists.{has_run, has_block, size_at};
 ghost use Rattle.mz_events.specs.declared.place.Place.{Place as place};
 ghost use Rattle.mz_events.specs.Places.{is_large};
 ghost use Rattle.mz_events.specs.State.{nothing_kept};
 ghost use Rattle.mz_events.specs.Room.{any_fits, best_fit};
-ghost use Rattle.mz_events.specs.Changes.{with_block, without_block, with_run, without_run};
+ghost use Rattle.mz_events.specs.Changes.{with_block, without_block, with_run};
 ghost use Rattle.mz_events.specs.Separation.{has_page};
 ghost use Rattle.mz_events.specs.Standing.{IsOf};
 ghost use Rattle.mz_large.specs.Blocks.{IsPaged};
-ghost use Rattle.mz_large.specs.Large.{block_of, run_of_span, IsCached};
+ghost use Rattle.mz_large.specs.Large.{block_of, run_of_span, HandsOut, Reuses};
 
 use crate::cache::Cache;
 use crate::live::{Block, Live};
@@ -25,13 +25,12 @@ use std::marker::Model;
 /// The large runs of a zone: those of live blocks, whose spans are with the callers, and up to 16 cached ones,
 /// which were freed and whose spans are owned here.
 ///
-/// Contracts see what it keeps: for how many runs it has room, the space of the cached ones where
-/// there are some, all runs, the live blocks, and the cached runs, the one freed first before the others.
+/// Contracts see what it keeps: for how many runs it has room, the space of the cached ones where there are
+/// some, all runs, the live blocks, and the cached runs, the one freed first before the others.
 #[derive(Drop)]
 pub struct Large {
     live: Live,
     cache: Cache,
-    pages: u64,
 }
 
 impl Model for Large {
@@ -42,12 +41,11 @@ impl Model for Large {
 
     ghost coded = { large_code };
 
-    ghost use Rattle.std.specs.Prelude.{◌≡◌};
     ghost use Rattle.mz_large.specs.Large.{keeping_of, IsLarge};
 
-    ghost view = { λ l. keeping_of l.pages l.live.blocks l.cache };
+    ghost view = { λ l. keeping_of l.live.room l.live.blocks l.cache };
 
-    ghost invariant = { λ l. IsLarge l.pages l.live.blocks l.cache × (l.live.pages ≡ l.pages) };
+    ghost invariant = { λ l. IsLarge l.live.room l.live.blocks l.cache };
 }
 
 impl Keep for Large {
@@ -58,14 +56,13 @@ impl Keep for Large {
 }
 
 impl Large {
-    /// No runs. All memory is taken here, for the runs that `pages` pages can hold.
-    pub fn make(alloc: Global, pages: u64) -> Result<Large, AllocError>
-        ensures { IfOk result (λ l. l ≡ record { room = pages; space = None; kept = nothing_kept }) }
+    /// No runs, and room for `most`. All memory is taken here.
+    pub fn make(alloc: Global, most: u64) -> Result<Large, AllocError>
+        ensures { IfOk result (λ l. l ≡ record { room = most; space = None; kept = nothing_kept }) }
     {
         Ok(Large {
-            live: Live::make(alloc, pages)?,
+            live: Live::make(alloc, most)?,
             cache: Cache::make(alloc)?,
-            pages,
         })
     }
 
@@ -85,8 +82,7 @@ impl Large {
 
     /// The first page and the number of pages of the run that holds a page, or None where none does.
     pub fn run_of(&self, page: u64) -> Option<(u64, u64)>
-        ensures { MatchOption result (¬ IsTrue (list_any (λ r. has_page r page) self.now.kept.runs))
-            (λ p. let r = run_at p.0 p.1 in IsTrue (has_run self.now.kept.runs r) × IsTrue (has_page r page)) }
+        ensures { result ≡ option_map (λ r. (r.first, r.pages)) (find (λ r. has_page r page) self.now.kept.runs) }
     {
         if let Some(block) = self.live.holding(page) {
             return Some((block.first / PAGE, block.size / PAGE));
@@ -99,8 +95,7 @@ impl Large {
     /// have `w` and waste fewer than `w`, and of equals the one freed first. None where no cached run fits.
     pub fn reuse(&mut self, w: u64) -> Option<Span>
         ensures { MatchOption result ((self.new ≡ self.old) × ¬ IsTrue (any_fits self.old.kept.cached w))
-            (λ s. IsCached self.old s × (best_fit self.old.kept.cached w ≡ Some (run_of_span s))
-            × (self.new ≡ record self.old { space = (if length self.new.kept.cached == 0 then None else self.old.space); kept = with_block (block_of s) self.old.kept })) }
+            (λ s. (best_fit self.old.kept.cached w ≡ Some (run_of_span s)) × Reuses self.old s self.new) }
     {
         let i = self.cache.best(w)?;
         let span = self.cache.take(i);
@@ -110,8 +105,8 @@ impl Large {
 
     /// Makes a run that comes from the free pages a live block.
     pub fn enter(&mut self, s: &Span)
+        requires room { length self.old.kept.runs < self.old.room }
         requires paged { IsPaged (block_of s.now) }
-        requires below { block_end (block_of s.now) ≤ self.old.room * PAGE }
         requires apart { IsTrue (list_all (λ r. runs_apart r (run_of_span s.now)) self.old.kept.runs) }
         ensures { self.new ≡ record self.old { kept = with_block (block_of s.now) (with_run (run_of_span s.now) self.old.kept) } }
     {
@@ -126,8 +121,7 @@ impl Large {
             (λ pushed. IsTrue (has_block self.old.kept.live b) × ((q : place) → IsTrue (is_large q) →
             let freed = record self.old { space = Some s.space; kept = without_block q b self.old.kept } in
             MatchOption pushed ((length self.old.kept.cached < 16) × (self.new ≡ freed))
-            (λ t. (length self.old.kept.cached ≡ 16) × IsCached self.old t × (freed.kept.cached ≡ run_of_span t ∷ self.new.kept.cached)
-            × (self.new ≡ record freed { kept = without_run (run_of_span t) freed.kept }))))
+            (λ t. (length self.old.kept.cached ≡ 16) × (freed.kept.cached ≡ run_of_span t ∷ self.new.kept.cached) × HandsOut freed t self.new)))
             (λ t. ¬ IsTrue (has_block self.old.kept.live b) × (self.new ≡ self.old) × (t ≡ s)) }
     {
         if self.live.remove(Block::of(&s)) {
@@ -140,8 +134,7 @@ impl Large {
     /// Hands out the cached run that was freed first, or None where none is cached.
     pub fn flush_one(&mut self) -> Option<Span>
         ensures { MatchOption result ((self.new ≡ self.old) × (self.old.kept.cached ≡ []))
-            (λ s. IsCached self.old s × (self.old.kept.cached ≡ run_of_span s ∷ self.new.kept.cached)
-            × (self.new ≡ record self.old { space = (if length self.new.kept.cached == 0 then None else self.old.space); kept = without_run (run_of_span s) self.old.kept })) }
+            (λ s. (self.old.kept.cached ≡ run_of_span s ∷ self.new.kept.cached) × HandsOut self.old s self.new) }
     {
         self.cache.pop_oldest()
     }
@@ -149,8 +142,7 @@ impl Large {
     /// Hands out the cached run that begins at a page, or None where none does.
     pub fn take_out(&mut self, first: u64) -> Option<Span>
         ensures { MatchOption result ((self.new ≡ self.old) × ¬ IsTrue (list_any (λ r. r.first == first) self.old.kept.cached))
-            (λ s. IsCached self.old s × ((run_of_span s).first ≡ first)
-            × (self.new ≡ record self.old { space = (if length self.new.kept.cached == 0 then None else self.old.space); kept = without_run (run_of_span s) self.old.kept })) }
+            (λ s. ((run_of_span s).first ≡ first) × HandsOut self.old s self.new) }
     {
         let i = self.cache.at(first)?;
         Some(self.cache.take(i))

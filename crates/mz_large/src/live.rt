@@ -1,5 +1,5 @@
 //! Live blocks by address.
-ghost use Rattle.std.specs.Prelude.{◌≡◌, ◌+◌, ◌*◌, ◌/◌, ◌<◌, ◌≤◌, [], length, true, false, IsTrue, IfOk, MatchOption};
+ghost use Rattle.std.specs.Prelude.{◌≡◌, ◌+◌, ◌/◌, ◌^◌, ◌<◌, ◌≤◌, [], length, true, false, IsTrue, IfOk, MatchOption};
 ghost use Rattle.std.specs.Bool.{MatchBool};
 ghost use Rattle.std.specs.List.{list_any, list_all};
 ghost use Rattle.mz_base.specs.declared.range.TheConstants.{PAGE};
@@ -7,7 +7,7 @@ ghost use Rattle.mz_base.specs.Space.{block_at, block_end, blocks_apart, run_at}
 ghost use Rattle.mz_base.specs.Lists.{has_block, add_block, drop_block, size_at};
 ghost use Rattle.mz_events.specs.Separation.{has_page};
 ghost use Rattle.mz_events.specs.Changes.{run_of};
-ghost use Rattle.mz_large.specs.Blocks.{IsPaged, IsTiled, IsPlaceOf};
+ghost use Rattle.mz_large.specs.Blocks.{IsPaged, IsPlaceOf};
 
 use mz_base::PAGE;
 use mz_ground::Span;
@@ -34,7 +34,8 @@ impl Model for Block {
 impl Block {
     /// The bytes of a span.
     pub(crate) fn of(s: &Span) -> Block
-        ensures { result ≡ block_at s.now.first (length s.now.bytes) }
+        ensures value { result ≡ block_at s.now.first (length s.now.bytes) }
+        ensures small { block_end result < 2 ^ 63 }
     {
         Block {
             first: s.first(),
@@ -43,12 +44,11 @@ impl Block {
     }
 }
 
-/// Live blocks of whole pages, by address, and how many pages there are. Contracts see both. No two blocks
-/// share a page, so there is room for as many blocks as pages.
+/// Live blocks of whole pages, by address. Contracts see them, and for how many there is room.
 #[derive(Drop)]
 pub(crate) struct Live {
     items: Vec<Block>,
-    pages: u64,
+    room: u64,
 }
 
 impl Model for Live {
@@ -58,28 +58,26 @@ impl Model for Live {
 
     ghost coded = { blocks_code };
 
-    ghost use Rattle.std.specs.Prelude.{◌*◌, ◌≤◌, vec_capacity};
-    ghost use Rattle.mz_base.specs.declared.range.TheConstants.{PAGE};
+    ghost use Rattle.std.specs.Prelude.{◌^◌, ◌≤◌, vec_capacity};
     ghost use Rattle.mz_large.specs.Blocks.{IsTiled};
 
-    ghost view = { λ l. record { pages = l.pages; blocks = l.items.items } };
+    ghost view = { λ l. record { room = l.room; blocks = l.items.items } };
 
-    ghost invariant = { λ l. IsTiled (l.pages * PAGE) 0 l.items.items × (l.pages ≤ vec_capacity l.items) };
+    ghost invariant = { λ l. IsTiled (2 ^ 63) 0 l.items.items × (l.room ≤ vec_capacity l.items) };
 }
 
 impl Live {
-    /// No blocks, in so many pages. All memory is taken here.
-    pub(crate) fn make(alloc: Global, pages: u64) -> Result<Live, AllocError>
-        ensures { IfOk result (λ l. l ≡ record { pages = pages; blocks = [] }) }
+    /// No blocks, and room for so many. All memory is taken here.
+    pub(crate) fn make(alloc: Global, room: u64) -> Result<Live, AllocError>
+        ensures { IfOk result (λ l. l ≡ record { room = room; blocks = [] }) }
     {
-        let items = Vec::with_capacity(alloc, pages as usize)?;
-        Ok(Live { items, pages })
+        let items = Vec::with_capacity(alloc, room as usize)?;
+        Ok(Live { items, room })
     }
 
-    /// How many blocks there are. What holds of all live blocks is said here.
+    /// How many blocks there are.
     pub(crate) fn len(&self) -> u64
-        ensures value { result ≡ length self.now.blocks }
-        ensures is { IsTiled (self.now.pages * PAGE) 0 self.now.blocks }
+        ensures { result ≡ length self.now.blocks }
     {
         self.items.len() as u64
     }
@@ -115,8 +113,9 @@ impl Live {
 
     /// Adds a block at its place.
     pub(crate) fn insert(&mut self, b: Block)
+        requires room { length self.old.blocks < self.old.room }
         requires paged { IsPaged b }
-        requires below { block_end b ≤ self.old.pages * PAGE }
+        requires small { block_end b < 2 ^ 63 }
         requires apart { IsTrue (list_all (λ c. blocks_apart c b) self.old.blocks) }
         ensures { self.new ≡ record self.old { blocks = add_block b self.old.blocks } }
     {

@@ -1,4 +1,4 @@
-use Rattle.std.proofs.Common.{◌≡◌, ℕ, suc, ◌+◌, ◌-◌, ◌*◌, ◌/◌, ◌<◌, ◌≤◌, true, false, List, length, get_or, sym, ap, ◌∙◌, subst, rules, arith}
+use Rattle.std.proofs.Common.{◌≡◌, ℕ, suc, ◌+◌, ◌-◌, ◌^◌, ◌/◌, ◌<◌, ◌≤◌, true, false, List, length, get_or, sym, ap, ◌∙◌, subst, rules, arith}
 use Rattle.std.specs.Prelude.{nat_le}
 use Rattle.std.specs.List.{list_any}
 use Rattle.std.specs.List.Sorted.{IsNonDecreasingBy}
@@ -18,11 +18,11 @@ returns-then-behind-eq0 c =
     let ys = c.deref.result.now in
     let same : c.deref.result.now ≡ i.items.items = c.deref.ensures.value in
     let blocks : c.deref.result.now ≡ c.args.self.now.blocks = c.deref.ensures.value ∙ ap (λ (v : BlocksView). v.blocks) c.self.view_is in
-    let tiled : IsTiled (i.pages * PAGE) 0 c.deref.result.now = subst (λ l. IsTiled (i.pages * PAGE) 0 l) (sym same) c.self.invariant.0 in
+    let tiled : IsTiled (2 ^ 63) 0 c.deref.result.now = subst (λ l. IsTiled (2 ^ 63) 0 l) (sym same) c.self.invariant.0 in
     let split : IsPageSplit c.deref.result.now c.args.page c.partition_point-behind.result =
     split-found c.deref.result.now c.args.page c.partition_point-behind.result c.partition_point-behind.ensures.bound
     (IsPartitionPoint-from_clause (λ (b : Block). nat_le (b.first / PAGE) c.args.page) c.deref.result.now c.partition_point-behind.result c.partition_point-behind.ensures.partitioned
-    (IsPartitionedBy-leb (λ (b : Block). b.first / PAGE) c.deref.result.now c.args.page (pages-ascend (i.pages * PAGE) c.deref.result.now tiled)) (λ a r f' k. search rules)) in
+    (IsPartitionedBy-leb (λ (b : Block). b.first / PAGE) c.deref.result.now c.args.page (pages-ascend (2 ^ 63) c.deref.result.now tiled)) (λ a r f' k. search rules)) in
     ap (list_any (λ b. has_page (run_of b) c.args.page)) (sym blocks) ∙ held-none c.deref.result.now c.args.page (subst (λ n. IsPageSplit c.deref.result.now c.args.page n) c.if-behind-eq0.true split)
 
 pub overflow_sub-page : goal.overflow_sub-page
@@ -31,11 +31,11 @@ overflow_sub-page c =
     let ys = c.deref.result.now in
     let same : c.deref.result.now ≡ i.items.items = c.deref.ensures.value in
     let blocks : c.deref.result.now ≡ c.args.self.now.blocks = c.deref.ensures.value ∙ ap (λ (v : BlocksView). v.blocks) c.self.view_is in
-    let tiled : IsTiled (i.pages * PAGE) 0 c.deref.result.now = subst (λ l. IsTiled (i.pages * PAGE) 0 l) (sym same) c.self.invariant.0 in
+    let tiled : IsTiled (2 ^ 63) 0 c.deref.result.now = subst (λ l. IsTiled (2 ^ 63) 0 l) (sym same) c.self.invariant.0 in
     let split : IsPageSplit c.deref.result.now c.args.page c.partition_point-behind.result =
     split-found c.deref.result.now c.args.page c.partition_point-behind.result c.partition_point-behind.ensures.bound
     (IsPartitionPoint-from_clause (λ (b : Block). nat_le (b.first / PAGE) c.args.page) c.deref.result.now c.partition_point-behind.result c.partition_point-behind.ensures.partitioned
-    (IsPartitionedBy-leb (λ (b : Block). b.first / PAGE) c.deref.result.now c.args.page (pages-ascend (i.pages * PAGE) c.deref.result.now tiled)) (λ a r f' k. search rules)) in
+    (IsPartitionedBy-leb (λ (b : Block). b.first / PAGE) c.deref.result.now c.args.page (pages-ascend (2 ^ 63) c.deref.result.now tiled)) (λ a r f' k. search rules)) in
     let within = split.within in
     let some = c.if-behind-eq0.false in
     let here : c.index-block.result.now ≡ get_or c.deref.result.now (c.partition_point-behind.result - 1) c.index-block.result.now = c.index-block.ensures ∙ ap (λ l. get_or l (c.partition_point-behind.result - 1) c.index-block.result.now) (sym same) in
@@ -50,11 +50,11 @@ returns-then-page-block c =
     let ys = c.deref.result.now in
     let same : c.deref.result.now ≡ i.items.items = c.deref.ensures.value in
     let blocks : c.deref.result.now ≡ c.args.self.now.blocks = c.deref.ensures.value ∙ ap (λ (v : BlocksView). v.blocks) c.self.view_is in
-    let tiled : IsTiled (i.pages * PAGE) 0 c.deref.result.now = subst (λ l. IsTiled (i.pages * PAGE) 0 l) (sym same) c.self.invariant.0 in
+    let tiled : IsTiled (2 ^ 63) 0 c.deref.result.now = subst (λ l. IsTiled (2 ^ 63) 0 l) (sym same) c.self.invariant.0 in
     let split : IsPageSplit c.deref.result.now c.args.page c.partition_point-behind.result =
     split-found c.deref.result.now c.args.page c.partition_point-behind.result c.partition_point-behind.ensures.bound
     (IsPartitionPoint-from_clause (λ (b : Block). nat_le (b.first / PAGE) c.args.page) c.deref.result.now c.partition_point-behind.result c.partition_point-behind.ensures.partitioned
-    (IsPartitionedBy-leb (λ (b : Block). b.first / PAGE) c.deref.result.now c.args.page (pages-ascend (i.pages * PAGE) c.deref.result.now tiled)) (λ a r f' k. search rules)) in
+    (IsPartitionedBy-leb (λ (b : Block). b.first / PAGE) c.deref.result.now c.args.page (pages-ascend (2 ^ 63) c.deref.result.now tiled)) (λ a r f' k. search rules)) in
     let within = split.within in
     let some = c.if-behind-eq0.false in
     let here : c.index-block.result.now ≡ get_or c.deref.result.now (c.partition_point-behind.result - 1) c.index-block.result.now = c.index-block.ensures ∙ ap (λ l. get_or l (c.partition_point-behind.result - 1) c.index-block.result.now) (sym same) in
@@ -74,11 +74,11 @@ returns-else-page-block c =
     let ys = c.deref.result.now in
     let same : c.deref.result.now ≡ i.items.items = c.deref.ensures.value in
     let blocks : c.deref.result.now ≡ c.args.self.now.blocks = c.deref.ensures.value ∙ ap (λ (v : BlocksView). v.blocks) c.self.view_is in
-    let tiled : IsTiled (i.pages * PAGE) 0 c.deref.result.now = subst (λ l. IsTiled (i.pages * PAGE) 0 l) (sym same) c.self.invariant.0 in
+    let tiled : IsTiled (2 ^ 63) 0 c.deref.result.now = subst (λ l. IsTiled (2 ^ 63) 0 l) (sym same) c.self.invariant.0 in
     let split : IsPageSplit c.deref.result.now c.args.page c.partition_point-behind.result =
     split-found c.deref.result.now c.args.page c.partition_point-behind.result c.partition_point-behind.ensures.bound
     (IsPartitionPoint-from_clause (λ (b : Block). nat_le (b.first / PAGE) c.args.page) c.deref.result.now c.partition_point-behind.result c.partition_point-behind.ensures.partitioned
-    (IsPartitionedBy-leb (λ (b : Block). b.first / PAGE) c.deref.result.now c.args.page (pages-ascend (i.pages * PAGE) c.deref.result.now tiled)) (λ a r f' k. search rules)) in
+    (IsPartitionedBy-leb (λ (b : Block). b.first / PAGE) c.deref.result.now c.args.page (pages-ascend (2 ^ 63) c.deref.result.now tiled)) (λ a r f' k. search rules)) in
     let within = split.within in
     let some = c.if-behind-eq0.false in
     let here : c.index-block.result.now ≡ get_or c.deref.result.now (c.partition_point-behind.result - 1) c.index-block.result.now = c.index-block.ensures ∙ ap (λ l. get_or l (c.partition_point-behind.result - 1) c.index-block.result.now) (sym same) in
@@ -92,4 +92,4 @@ returns-else-page-block c =
     ap (λ (b : Block). has_page (run_of b) c.args.page) (sym here) ∙ page-above c.index-block.result.now c.args.page (omega arith) in
     let behind : c.partition_point-behind.result ≡ suc (c.partition_point-behind.result - 1) = omega arith in
     ap (list_any (λ b. has_page (run_of b) c.args.page)) (sym blocks)
-    ∙ held-not (i.pages * PAGE) c.deref.result.now 0 c.args.page (c.partition_point-behind.result - 1) c.index-block.result.now tiled (subst (λ n. IsPageSplit c.deref.result.now c.args.page n) behind split) none
+    ∙ held-not (2 ^ 63) c.deref.result.now 0 c.args.page (c.partition_point-behind.result - 1) c.index-block.result.now tiled (subst (λ n. IsPageSplit c.deref.result.now c.args.page n) behind split) none

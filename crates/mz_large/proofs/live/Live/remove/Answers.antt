@@ -1,5 +1,4 @@
-use Rattle.std.proofs.Common.{◌≡◌, ℕ, ◌*◌, ◌<◌, false, true, List, length, get_or, sym, ap, ◌∙◌, subst, refl, arith}
-use Rattle.mz_base.specs.declared.range.TheConstants.{PAGE}
+use Rattle.std.proofs.Common.{◌≡◌, ℕ, ◌^◌, ◌<◌, false, true, List, length, get_or, sym, ap, ◌∙◌, subst, refl, arith}
 use Rattle.mz_base.specs.Space.{Block}
 use Rattle.mz_base.specs.Lists.{has_block, drop_block}
 use Rattle.mz_large.specs.Blocks.{BlocksView, IsTiled, IsPlaceOf}
@@ -9,7 +8,7 @@ use Rattle.mz_large.proofs.live.Live.remove.Goals as goal
 use Rattle.mz_large.proofs.live.Live.remove.Goals.{then-there-b-via-then-there-b, then-there-b-via-else-there-b+then-there-b-2}
 
 abbrev the_blocks : ℕ → List Block → BlocksView
-the_blocks n l = record { pages = n; blocks = l }
+the_blocks n l = record { room = n; blocks = l }
 
 pub returns-then-place-len : goal.returns-then-place-len
 returns-then-place-len c =
@@ -19,7 +18,7 @@ returns-then-place-len c =
     let long = c.len.ensures in
     let ok = i.items.ok in
     let far = c.if-place-len.true in
-    (ap (λ l. has_block l c.args.b) (sym same) ∙ not-there (i.pages * PAGE) i.items.items 0 c.args.b c.place-place.result c.args.b c.self.invariant.0 place (λ within is. absurd (omega arith)), refl)
+    (ap (λ l. has_block l c.args.b) (sym same) ∙ not-there (2 ^ 63) i.items.items 0 c.args.b c.place-place.result c.args.b c.self.invariant.0 place (λ within is. absurd (omega arith)), refl)
 
 pub returns-then-there-b : goal.returns-then-there-b
 returns-then-there-b c =
@@ -35,7 +34,7 @@ returns-then-there-b c =
       | then-there-b-via-then-there-b w ↦ λ within is. w.if-there-b.true (first ∙ ap (λ (d : Block). d.first) is ∙ sym own_first)
       | then-there-b-via-else-there-b+then-there-b-2 w ↦ λ within is. w.if-there-b-2.true (size ∙ ap (λ (d : Block). d.size) is ∙ sym own_size)
     ] in
-    (ap (λ l. has_block l c.args.b) (sym same) ∙ not-there (i.pages * PAGE) i.items.items 0 c.args.b c.place-place.result c.index-there.result.now c.self.invariant.0 place other, refl)
+    (ap (λ l. has_block l c.args.b) (sym same) ∙ not-there (2 ^ 63) i.items.items 0 c.args.b c.place-place.result c.index-there.result.now c.self.invariant.0 place other, refl)
 
 pub returns : goal.returns
 returns c =
@@ -50,8 +49,8 @@ returns c =
     let ok = i.items.ok in
     let near = c.if-place-len.false in
     let among = there i.items.items c.args.b c.place-place.result c.index-there.result.now (omega arith) is in
-    let done = removed-dropped (i.pages * PAGE) i.items.items i.items.items c.remove.new.self.items c.args.b c.args.b.first c.place-place.result refl c.self.invariant.0 among refl place c.remove.ensures.items in
-    (ap (λ l. has_block l c.args.b) (sym same) ∙ among, ap (λ (l : List Block). the_blocks i.pages l) done ∙ ap (λ (v : BlocksView). record v { blocks = drop_block c.args.b v.blocks }) c.self.view_is)
+    let done = removed-dropped (2 ^ 63) i.items.items i.items.items c.remove.new.self.items c.args.b c.args.b.first c.place-place.result refl c.self.invariant.0 among refl place c.remove.ensures.items in
+    (ap (λ l. has_block l c.args.b) (sym same) ∙ among, ap (λ (l : List Block). the_blocks i.room l) done ∙ ap (λ (v : BlocksView). record v { blocks = drop_block c.args.b v.blocks }) c.self.view_is)
 
 pub invariant_of-self : goal.invariant_of-self
 invariant_of-self c =
@@ -66,7 +65,7 @@ invariant_of-self c =
     let ok = i.items.ok in
     let near = c.if-place-len.false in
     let among = there i.items.items c.args.b c.place-place.result c.index-there.result.now (omega arith) is in
-    let done = removed-dropped (i.pages * PAGE) i.items.items i.items.items c.remove.new.self.items c.args.b c.args.b.first c.place-place.result refl c.self.invariant.0 among refl place c.remove.ensures.items in
+    let done = removed-dropped (2 ^ 63) i.items.items i.items.items c.remove.new.self.items c.args.b c.args.b.first c.place-place.result refl c.self.invariant.0 among refl place c.remove.ensures.items in
     let more = c.remove.ensures.capacity in
     let room = c.self.invariant.1 in
-    (dropped-tiled (i.pages * PAGE) i.items.items i.items.items c.remove.new.self.items c.args.b refl c.self.invariant.0 done, omega arith)
+    (dropped-tiled (2 ^ 63) i.items.items i.items.items c.remove.new.self.items c.args.b refl c.self.invariant.0 done, omega arith)

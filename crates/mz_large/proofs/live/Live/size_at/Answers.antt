@@ -1,5 +1,4 @@
-use Rattle.std.proofs.Common.{◌≡◌, ℕ, ◌*◌, ◌<◌, List, length, get_or, sym, ap, ◌∙◌, subst, arith}
-use Rattle.mz_base.specs.declared.range.TheConstants.{PAGE}
+use Rattle.std.proofs.Common.{◌≡◌, ℕ, ◌^◌, ◌<◌, List, length, get_or, sym, ap, ◌∙◌, subst, arith}
 use Rattle.mz_base.specs.Space.{Block}
 use Rattle.mz_base.specs.Lists.{size_at}
 use Rattle.mz_large.specs.Blocks.{BlocksView, IsPlaceOf}
@@ -22,7 +21,7 @@ returns-then-index-a c =
     let both : c.index.result.now ≡ get_or i.items.items c.place-place.result c.index-then-index-a.result.now = c.index.ensures ∙ get_or_default i.items.items c.place-place.result c.index.result.now c.index-then-index-a.result.now within in
     let at : (get_or i.items.items c.place-place.result c.index-then-index-a.result.now).first ≡ c.args.a = ap (λ (d : Block). d.first) (sym both ∙ sym c.behind-self.view_is) ∙ c.if-index-a.true in
     ap (λ (d : Block). d.size) (c.behind-self-then-index-a.view_is ∙ sym here)
-    ∙ sym (size-there (i.pages * PAGE) i.items.items 0 c.args.a c.place-place.result c.index-then-index-a.result.now c.self.invariant.0 place within at) ∙ ap (λ l. size_at l c.args.a) same
+    ∙ sym (size-there (2 ^ 63) i.items.items 0 c.args.a c.place-place.result c.index-then-index-a.result.now c.self.invariant.0 place within at) ∙ ap (λ l. size_at l c.args.a) same
 
 pub returns-else-place-len : goal.returns-else-place-len
 returns-else-place-len c =
@@ -36,4 +35,4 @@ returns-else-place-len c =
       | else-place-len-via-then-place-len+else-index-a w ↦ λ d within at. w.if-index-a.false (ap (λ (e : Block). e.first) (w.behind-self.view_is ∙ w.index.ensures ∙ get_or_default i.items.items c.place-place.result w.index.result.now d within) ∙ at)
       | else-place-len-via-else-place-len w ↦ λ d within at. let far = w.if-place-len.false in absurd (omega arith)
     ] in
-    sym (size-none (i.pages * PAGE) i.items.items 0 c.args.a c.place-place.result c.self.invariant.0 place other) ∙ ap (λ l. size_at l c.args.a) same
+    sym (size-none (2 ^ 63) i.items.items 0 c.args.a c.place-place.result c.self.invariant.0 place other) ∙ ap (λ l. size_at l c.args.a) same

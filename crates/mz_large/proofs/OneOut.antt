@@ -1,8 +1,8 @@
 -- Cached runs beside a block: that one is out, and that the others stay.
 use Rattle.std.proofs.Common.{◌≡◌, ℕ, zero, suc, ◌+◌, ◌/◌, ◌%◌, ◌<◌, ◌≤◌, Bool, true, false, not, List, [], ◌∷◌, ◌++◌, length, map, Option, Some, None, refl, ap, sym, subst, ◌∙◌, inl, inr, arith}
 use Rattle.std.specs.Prelude.{◌==◌, nat_lt, filter}
-use Rattle.std.specs.List.{All, HoldsAt, list_all, remove}
-use Rattle.std.proofs.lemmas.Bool.{and_parts, and_left, and_from, or_left, or_right, or_cases, cases_Bool, false≢true, ltb-true, ltb-false, ne_eqb, eq-eqb, cond-true, cond-false}
+use Rattle.std.specs.List.{All, HoldsAt, list_all, list_any, remove}
+use Rattle.std.proofs.lemmas.Bool.{and_parts, and_left, and_from, or_left, or_right, or_from, or_cases, cases_Bool, false≢true, ltb-true, ltb-false, ne_eqb, eq-eqb, cond-true, cond-false}
 use Rattle.std.proofs.lemmas.Nat.{div-add-mod'}
 use Rattle.std.proofs.lemmas.List.Elements.{All-nil, All-cons, All-head, All-tail}
 use Rattle.mz_base.specs.declared.range.TheConstants.{PAGE}
@@ -163,3 +163,10 @@ at-place (x ∷ xs) zero s within is = record { front = []; back = xs; all = ap 
 at-place (x ∷ xs) (suc i) s within is =
     let rest = at-place xs i s (omega arith) (λ d. is d) in
     record { front = x ∷ rest.front; back = rest.back; all = ap (λ l. x ∷ l) rest.all; others = ap (λ l. x ∷ l) rest.others }
+
+-- where none passes a test, none of the runs does
+pub none-passes : (q : Run → Bool) (cs : List SpanView) → All (λ s. q (run_of_span s) ≡ false) cs → list_any q (map run_of_span cs) ≡ false
+none-passes q [] none = refl
+none-passes q (s ∷ ss) none =
+    let N : SpanView → Type 0 = λ t. q (run_of_span t) ≡ false in
+    or_from (q (run_of_span s)) (list_any q (map run_of_span ss)) (All-head N s ss none) (none-passes q ss (All-tail N s ss none))

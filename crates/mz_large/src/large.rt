@@ -18,6 +18,7 @@ use crate::cache::Cache;
 use crate::live::{Block, Live};
 use mz_base::PAGE;
 use mz_events::Keep;
+use mz_events::laws::best_fits;
 use mz_ground::Span;
 use std::alloc::{AllocError, Global};
 use std::marker::Model;
@@ -97,6 +98,7 @@ impl Large {
         ensures { MatchOption result ((self.new ≡ self.old) × ¬ IsTrue (any_fits self.old.kept.cached w))
             (λ s. (best_fit self.old.kept.cached w ≡ Some (run_of_span s)) × Reuses self.old s self.new) }
     {
+        best_fits();
         let i = self.cache.best(w)?;
         let span = self.cache.take(i);
         self.live.insert(Block::of(&span));

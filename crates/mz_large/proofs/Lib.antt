@@ -4,3 +4,4 @@ pub mod Fits
 pub mod Runs
 pub mod OneOut
 pub mod Keeping
+pub mod Finding

@@ -2,11 +2,11 @@
 use Rattle.std.proofs.Common.{◌≡◌, ℕ, ◌+◌, ◌/◌, ◌<◌, ◌≤◌, Bool, true, false, List, [], ◌∷◌, ◌++◌, length, map, Some, None, ap, sym, subst, ◌∙◌, refl, inl, inr, arith}
 use Rattle.std.specs.Prelude.{nat_le, nat_lt, find}
 use Rattle.std.specs.List.{All, HoldsAt, list_any}
-use Rattle.std.proofs.lemmas.Bool.{and_parts, or_cases, or_from, or_parts, cases_Bool, false≢true, leb-true, ltb-true, ltb-false, cond-true, cond-false, cond_both}
+use Rattle.std.proofs.lemmas.Bool.{and_parts, or_cases, or_from, or_parts, false≢true, leb-true, cond-true, cond-false, cond_both}
 use Rattle.std.proofs.lemmas.Nat.{div-add-mod'}
 use Rattle.std.proofs.lemmas.List.Elements.{All-head, All-tail}
 use Rattle.mz_base.specs.declared.range.TheConstants.{PAGE}
-use Rattle.mz_base.specs.Space.{Block, Run, block_end, same_block}
+use Rattle.mz_base.specs.Space.{Block, block_end, same_block}
 use Rattle.mz_base.specs.Lists.{insert_by, has_block, add_block}
 use Rattle.mz_ground.specs.Views.{SpanView}
 use Rattle.mz_events.specs.Changes.{run_of}

@@ -1,5 +1,5 @@
 -- What large keeps after each of its calls.
-use Rattle.std.proofs.Common.{◌≡◌, ℕ, ◌+◌, ◌^◌, ◌<◌, ◌≤◌, true, false, not, List, [], ◌∷◌, ◌++◌, length, map, Option, Some, None, refl, ap, sym, subst, ◌∙◌, arith}
+use Rattle.std.proofs.Common.{◌≡◌, ℕ, ◌^◌, ◌<◌, ◌≤◌, true, false, not, List, [], ◌∷◌, ◌++◌, length, map, Option, Some, None, refl, ap, sym, subst, ◌∙◌, arith}
 use Rattle.std.specs.Prelude.{filter, if◌then◌else◌}
 use Rattle.std.specs.List.{All, list_all}
 use Rattle.std.proofs.lemmas.Bool.{false≢true, cond-true, cond-false}
@@ -7,13 +7,13 @@ use Rattle.std.proofs.lemmas.List.{map-append, length-map}
 use Rattle.std.proofs.lemmas.List.Elements.{All-nil, All-cons, All-head, All-append, All-weaker}
 use Rattle.mz_base.specs.Site.{Site}
 use Rattle.mz_base.specs.Space.{Block, Run, block_end, blocks_apart, runs_apart, same_block, same_run, bytes_of}
-use Rattle.mz_base.specs.Lists.{has_run, has_block, add_block, drop_block, add_run, drop_run}
+use Rattle.mz_base.specs.Lists.{has_run, has_block, add_block, drop_block, drop_run}
 use Rattle.mz_ground.specs.Views.{SpanView}
 use Rattle.mz_events.specs.declared.place.Place.{Place}
 use Rattle.mz_events.specs.declared.place.Place.TheVariants.{Pages, Tiny, TinyDepot, Small, SmallDepot, Large, Nano}
 use Rattle.mz_events.specs.Places.{is_large, is_magazine}
 use Rattle.mz_events.specs.State.{Kept}
-use Rattle.mz_events.specs.Changes.{run_of, with_block, without_block, with_run, without_run}
+use Rattle.mz_events.specs.Changes.{run_of, with_block, without_block, with_run}
 use Rattle.mz_events.specs.Standing.{LargeKept, IsOf}
 use Rattle.mz_large.specs.Blocks.{IsPaged, IsTiled}
 use Rattle.mz_large.specs.Large.{block_of, run_of_span, space_of, all_blocks, keeping_of, IsLarge, IsCached, HandsOut, Reuses}

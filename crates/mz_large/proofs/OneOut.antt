@@ -1,5 +1,5 @@
 -- Cached runs beside a block: that one is out, and that the others stay.
-use Rattle.std.proofs.Common.{◌≡◌, ℕ, zero, suc, ◌+◌, ◌/◌, ◌%◌, ◌<◌, ◌≤◌, Bool, true, false, not, List, [], ◌∷◌, ◌++◌, length, map, Option, Some, None, refl, ap, sym, subst, ◌∙◌, inl, inr, arith}
+use Rattle.std.proofs.Common.{◌≡◌, ℕ, zero, suc, ◌+◌, ◌/◌, ◌<◌, ◌≤◌, Bool, true, false, not, List, [], ◌∷◌, ◌++◌, length, map, Option, Some, None, refl, ap, sym, subst, ◌∙◌, inl, inr, arith}
 use Rattle.std.specs.Prelude.{◌==◌, nat_lt, filter}
 use Rattle.std.specs.List.{All, HoldsAt, list_all, list_any, remove}
 use Rattle.std.proofs.lemmas.Bool.{and_parts, and_left, and_from, or_left, or_right, or_from, or_cases, cases_Bool, false≢true, ltb-true, ltb-false, ne_eqb, eq-eqb, cond-true, cond-false}

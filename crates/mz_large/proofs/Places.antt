@@ -1,6 +1,6 @@
 -- The place of a block among tiled ones: adding and dropping it by its place.
-use Rattle.std.proofs.Common.{◌≡◌, ℕ, suc, zero, ◌+◌, ◌-◌, ◌<◌, ◌≤◌, true, false, Option, Some, None, List, [], ◌∷◌, ◌++◌, length, get_or, refl, ap, sym, subst, ◌∙◌, inl, inr, arith}
-use Rattle.std.specs.Prelude.{◌*◌, ◌/◌, ◌==◌, nat_le, nat_lt, find, insert, remove}
+use Rattle.std.proofs.Common.{◌≡◌, ℕ, suc, zero, ◌+◌, ◌<◌, ◌≤◌, true, false, Option, Some, None, List, [], ◌∷◌, length, get_or, refl, ap, sym, subst, ◌∙◌, inl, inr, arith}
+use Rattle.std.specs.Prelude.{◌/◌, ◌==◌, nat_le, nat_lt, find, insert, remove}
 use Rattle.std.specs.List.{list_all, list_any, AllWithin}
 use Rattle.std.proofs.lemmas.Nat.{div-add-mod'}
 use Rattle.mz_events.specs.Separation.{has_page}

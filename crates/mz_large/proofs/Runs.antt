@@ -1,18 +1,18 @@
 -- The blocks of all runs: one more, one fewer, and that each is apart from the others.
-use Rattle.std.proofs.Common.{◌≡◌, ℕ, ◌+◌, ◌*◌, ◌/◌, ◌%◌, ◌<◌, ◌≤◌, Bool, true, false, not, List, [], ◌∷◌, ◌++◌, length, map, refl, ap, sym, subst, ◌∙◌, inl, inr, arith}
-use Rattle.std.specs.Prelude.{◌==◌, ◌||◌, nat_le, nat_lt, filter, fold}
-use Rattle.std.specs.List.{All, list_all, list_any}
-use Rattle.std.proofs.lemmas.Bool.{and_parts, and_from, and_left, or_cases, or_left, or_right, or_from, cases_Bool, false≢true, leb-true, ltb-true, ltb-false, lt-ltb, le-ltb, eqb-true, eq-eqb, ne_eqb, cond-true, cond-false, cond_both}
+use Rattle.std.proofs.Common.{◌≡◌, ℕ, ◌+◌, ◌*◌, ◌/◌, ◌<◌, ◌≤◌, Bool, true, false, List, [], ◌∷◌, ◌++◌, map, refl, ap, sym, subst, ◌∙◌, inl, inr, arith}
+use Rattle.std.specs.Prelude.{◌==◌, nat_le, nat_lt}
+use Rattle.std.specs.List.{All, list_all}
+use Rattle.std.proofs.lemmas.Bool.{and_parts, and_from, and_left, or_cases, or_left, or_right, cases_Bool, false≢true, leb-true, ltb-true, ltb-false, lt-ltb, le-ltb, ne_eqb, cond-true, cond-false, cond_both}
 use Rattle.std.proofs.lemmas.Nat.{div-add-mod'}
-use Rattle.std.proofs.lemmas.List.Elements.{All-nil, All-cons, All-head, All-tail, All-weaker}
+use Rattle.std.proofs.lemmas.List.Elements.{All-nil, All-cons, All-head, All-tail}
 use Rattle.mz_base.specs.declared.range.TheConstants.{PAGE}
-use Rattle.mz_base.specs.Space.{Block, Run, block_end, blocks_apart, runs_apart, same_block, same_run, bytes_of}
-use Rattle.mz_base.specs.Lists.{insert_by, has_run, has_block, add_block, drop_block, add_run, drop_run}
+use Rattle.mz_base.specs.Space.{Block, block_end, blocks_apart, runs_apart, same_block, bytes_of}
+use Rattle.mz_base.specs.Lists.{insert_by, has_block, add_block, drop_block, add_run}
 use Rattle.mz_ground.specs.Views.{SpanView}
 use Rattle.mz_events.specs.Changes.{run_of}
 use Rattle.mz_large.specs.Blocks.{IsPaged, IsTiled}
-use Rattle.mz_large.specs.Large.{block_of, run_of_span, space_of, all_blocks}
-use Rattle.mz_large.proofs.Tiled.{tiled-all, tiled-lower, tiled-member, drop-first, drop-later, apart_below, apart_above, blocks_apart-comm, same_block-true, same_block-refl}
+use Rattle.mz_large.specs.Large.{block_of, all_blocks}
+use Rattle.mz_large.proofs.Tiled.{tiled-all, tiled-lower, tiled-member, drop-first, drop-later, apart_below, apart_above, same_block-true, same_block-refl}
 
 pub add-here : (b c : Block) (cs : List Block) → b.first < c.first → add_block b (c ∷ cs) ≡ b ∷ c ∷ cs
 unfolding insert_by

@@ -1,5 +1,5 @@
 -- What a keeper of large runs keeps. This project's own.
-use Rattle.std.specs.Prelude.{◌≡◌, ℕ, ◌+◌, ◌^◌, ◌≤◌, Bool, true, List, [], ◌∷◌, length, map, fold, Option, Some, None, IsTrue, refl}
+use Rattle.std.specs.Prelude.{◌≡◌, ℕ, ◌+◌, ◌^◌, ◌≤◌, List, [], ◌∷◌, length, map, fold, Option, Some, None, IsTrue, refl}
 use Rattle.std.specs.List.{All, list_all}
 use Rattle.std.specs.Coded.{Coded, code_by, coded×, coded_ℕ, coded_list, coded_option}
 use Rattle.mz_base.specs.Space.{Block, Run, block_at, bytes_of, blocks_apart}

@@ -1,4 +1,3 @@
-use Rattle.std.proofs.Common.{◌≡◌}
 use Rattle.mz_large.specs.Best.{IsBestFrom}
 use Rattle.mz_large.proofs.cache.Cache.best.Given as goal
 

@@ -10,7 +10,7 @@ use Rattle.mz_large.proofs.large.Large.flush_one.Goals as goal
 flushed : (room : ℕ) (live : List Block) (cached new : List SpanView) (got : Option SpanView) (now : LargeKept)
     → keeping_of room live cached ≡ now → IsLarge room live cached → MatchOption got ((cached ≡ []) × (new ≡ [])) (λ s. cached ≡ s ∷ new)
     → IsLarge room live new × MatchOption got ((keeping_of room live new ≡ now) × (now.kept.cached ≡ []))
-        (λ s. (now.kept.cached ≡ run_of_span s ∷ map run_of_span new) × HandsOut now s (keeping_of room live new))
+    (λ s. (now.kept.cached ≡ run_of_span s ∷ map run_of_span new) × HandsOut now s (keeping_of room live new))
 flushed room live cached new None now view h was =
     let same : cached ≡ new = was.0 ∙ sym was.1 in (
       subst (IsLarge room live) same h,

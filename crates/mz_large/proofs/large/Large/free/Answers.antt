@@ -1,4 +1,4 @@
-use Rattle.std.proofs.Common.{◌≡◌, ℕ, ◌<◌, true, List, [], ◌∷◌, ◌++◌, Option, Some, None, length, map, sym, ap, ◌∙◌, subst}
+use Rattle.std.proofs.Common.{◌≡◌, ℕ, ◌<◌, true, List, [], ◌∷◌, ◌++◌, Option, Some, None, length, sym, ap, ◌∙◌, subst}
 use Rattle.std.specs.Prelude.{MatchOption, IsTrue}
 use Rattle.std.proofs.lemmas.List.{length-map}
 use Rattle.mz_base.specs.Space.{Block}
@@ -59,7 +59,7 @@ frees room live cached s b left got new now view h of is among leaves was =
       (
         ap (λ (v : LargeKept). has_block v.kept.live (block_of s)) (sym view) ∙ here,
         subst (λ (v : BlocksView). Pushes now s got (keeping_of v.room v.blocks new)) rest
-        (subst (λ v. Pushes v s got (keeping_of room (drop_block (block_of s) live) new)) view done.1),
+            (subst (λ v. Pushes v s got (keeping_of room (drop_block (block_of s) live) new)) view done.1),
       ),
     )
 

@@ -1,13 +1,12 @@
-use Rattle.std.proofs.Common.{◌≡◌, ℕ, ◌^◌, ◌/◌, [], Some, None, Option, get_or, sym, ap, ◌∙◌, subst}
+use Rattle.std.proofs.Common.{◌≡◌, ℕ, ◌^◌, ◌/◌, [], Some, None, Option, get_or, sym, ap, ◌∙◌}
 use Rattle.std.specs.Prelude.{find}
 use Rattle.std.specs.Option.{option_map}
 use Rattle.std.proofs.lemmas.List.{get_or_default}
 use Rattle.mz_base.specs.declared.range.TheConstants.{PAGE}
-use Rattle.mz_base.specs.Space.{Block, Run, run_at}
+use Rattle.mz_base.specs.Space.{Block, Run}
 use Rattle.mz_ground.specs.Views.{SpanView}
 use Rattle.mz_events.specs.Separation.{has_page}
 use Rattle.mz_events.specs.Standing.{LargeKept}
-use Rattle.mz_large.specs.Large.{run_of_span}
 use Rattle.mz_large.proofs.Finding.{found-live, found-cached, found-nowhere}
 use Rattle.mz_large.proofs.large.Large.run_of.Goals as goal
 
@@ -39,4 +38,4 @@ returns c =
     let within = c.in_ok-i.ensures.0 in
     ap (λ r. Some (pair r)) (c.pages.ensures nothing)
     ∙ seen _ c.args.self.now c.args.page _ c.self.view_is
-        (found-cached (2 ^ 63) i.live.blocks i.cache c.args.page c.in_ok-i.i (get_or i.cache c.in_ok-i.i nothing) c.self.invariant.tiled within (λ d. get_or_default i.cache c.in_ok-i.i d nothing within) (c.in_ok-i.ensures.1 nothing))
+    (found-cached (2 ^ 63) i.live.blocks i.cache c.args.page c.in_ok-i.i (get_or i.cache c.in_ok-i.i nothing) c.self.invariant.tiled within (λ d. get_or_default i.cache c.in_ok-i.i d nothing within) (c.in_ok-i.ensures.1 nothing))

@@ -1,11 +1,11 @@
-use Rattle.std.proofs.Common.{◌≡◌, ℕ, ◌<◌, true, false, List, ◌++◌, ◌∷◌, None, length, get_or, sym, ap, ◌∙◌, subst, refl}
+use Rattle.std.proofs.Common.{◌≡◌, ℕ, ◌<◌, List, ◌++◌, ◌∷◌, length, sym, ap, ◌∙◌, subst, refl}
 use Rattle.std.specs.Prelude.{◌==◌, MatchOption, IsTrue}
 use Rattle.std.specs.List.{HoldsAt, list_any, remove}
 use Rattle.std.proofs.lemmas.Bool.{false≢true}
 use Rattle.mz_base.specs.Space.{Block, page_of}
 use Rattle.mz_ground.specs.Views.{SpanView}
 use Rattle.mz_events.specs.Standing.{LargeKept}
-use Rattle.mz_large.specs.Large.{run_of_span, keeping_of, IsLarge, HandsOut}
+use Rattle.mz_large.specs.Large.{keeping_of, IsLarge, HandsOut}
 use Rattle.mz_large.proofs.OneOut.{at-place, none-passes}
 use Rattle.mz_large.proofs.Keeping.{taken_out}
 use Rattle.mz_large.proofs.large.Large.take_out.Goals as goal
@@ -26,7 +26,7 @@ taken_at room live cached i s new now view h within is left =
     let others : new ≡ place.front ++ place.back = left ∙ place.others in (
       subst (IsLarge room live) (sym others) done.large,
       subst (λ v. HandsOut v s (keeping_of room live new)) (ap (keeping_of room live) (sym place.all) ∙ view)
-      (subst (λ l. HandsOut (keeping_of room live (place.front ++ s ∷ place.back)) s (keeping_of room live l)) (sym others) done.out),
+          (subst (λ l. HandsOut (keeping_of room live (place.front ++ s ∷ place.back)) s (keeping_of room live l)) (sym others) done.out),
     )
 
 pub invariant_of-self : goal.invariant_of-self

@@ -2,7 +2,7 @@ use Rattle.std.proofs.Common.{◌≡◌, ℕ, ◌^◌, ◌≤◌, true, List, le
 use Rattle.std.specs.List.{list_all}
 use Rattle.mz_base.specs.Space.{Block, block_end, blocks_apart}
 use Rattle.mz_base.specs.Lists.{add_block}
-use Rattle.mz_large.specs.Blocks.{BlocksView, IsTiled, IsPlaceOf}
+use Rattle.mz_large.specs.Blocks.{BlocksView, IsPlaceOf}
 use Rattle.mz_large.proofs.Places.{inserted-added, added-tiled}
 use Rattle.mz_large.proofs.live.Live.insert.Goals as goal
 

@@ -1,9 +1,9 @@
-use Rattle.std.proofs.Common.{◌^◌, ◌∙◌, subst, sym, ap, rules}
+use Rattle.std.proofs.Common.{◌^◌, ◌∙◌, subst, ap, rules}
 use Rattle.std.specs.Prelude.{nat_lt}
 use Rattle.std.specs.List.Sorted.{IsNonDecreasingBy}
 use Rattle.std.proofs.lemmas.List.Sorted.{IsPartitionPoint-from_clause, IsPartitionedBy-ltb}
 use Rattle.mz_base.specs.Space.{Block}
-use Rattle.mz_large.specs.Blocks.{BlocksView, IsPlaceOf, IsTiled}
+use Rattle.mz_large.specs.Blocks.{BlocksView, IsPlaceOf}
 use Rattle.mz_large.proofs.Places.{place-found, tiled-ascends}
 use Rattle.mz_large.proofs.live.Live.place.Goals as goal
 

@@ -1,9 +1,8 @@
-use Rattle.std.proofs.Common.{◌≡◌, ℕ, ◌^◌, ◌<◌, false, true, List, length, get_or, sym, ap, ◌∙◌, subst, refl, arith}
+use Rattle.std.proofs.Common.{◌≡◌, ℕ, ◌^◌, ◌<◌, List, length, get_or, sym, ap, ◌∙◌, subst, refl, arith}
 use Rattle.mz_base.specs.Space.{Block}
 use Rattle.mz_base.specs.Lists.{has_block, drop_block}
-use Rattle.mz_large.specs.Blocks.{BlocksView, IsTiled, IsPlaceOf}
+use Rattle.mz_large.specs.Blocks.{BlocksView, IsPlaceOf}
 use Rattle.mz_large.proofs.Places.{not-there, there, removed-dropped, dropped-tiled}
-use Rattle.std.proofs.lemmas.List.{get_or_default}
 use Rattle.mz_large.proofs.live.Live.remove.Goals as goal
 use Rattle.mz_large.proofs.live.Live.remove.Goals.{then-there-b-via-then-there-b, then-there-b-via-else-there-b+then-there-b-2}
 

@@ -1,4 +1,4 @@
-use Rattle.std.proofs.Common.{◌≡◌, ℕ, ◌^◌, ◌<◌, List, length, get_or, sym, ap, ◌∙◌, subst, arith}
+use Rattle.std.proofs.Common.{◌≡◌, ◌^◌, ◌<◌, length, get_or, sym, ap, ◌∙◌, subst, arith}
 use Rattle.mz_base.specs.Space.{Block}
 use Rattle.mz_base.specs.Lists.{size_at}
 use Rattle.mz_large.specs.Blocks.{BlocksView, IsPlaceOf}

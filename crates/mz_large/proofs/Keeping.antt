@@ -18,7 +18,7 @@ use Rattle.mz_events.specs.Standing.{LargeKept, IsOf}
 use Rattle.mz_large.specs.Blocks.{IsPaged, IsTiled}
 use Rattle.mz_large.specs.Large.{block_of, run_of_span, space_of, all_blocks, keeping_of, IsLarge, IsCached, HandsOut, Reuses}
 use Rattle.mz_large.proofs.Tiled.{tiled-member, tiled-add, same_block-refl, blocks_apart-comm}
-use Rattle.mz_large.proofs.Places.{length-add}
+use Rattle.mz_large.proofs.Places.{length-insert}
 use Rattle.mz_large.proofs.Runs.{all-add, all-cached, has-added, added-apart, live-tiled, cached-apart, cached-paged, of-live, of-cached, apart-runs, whole-bytes, runs-added, dropped-added}
 use Rattle.mz_large.proofs.OneOut.{same_run-refl, differ-all, other-blocks, other-runs, kept-all, kept-out, filter-all, runs-dropped, has-run, has-cached, length-all, length-out, all-one, all-others, of-space, space-left}
 
@@ -53,7 +53,7 @@ entered room live cached b h few paged small runs_are_apart =
     let more : all_blocks (add_block b live) cached ≡ add_block b (all_blocks live cached) = all-add live cached b (differ-all b cached own pages others) in
     let long = length-all live cached in
     let runs = length-map (all_blocks live cached) run_of in
-    let one = length-add b live in
+    let one = length-insert (λ (c : Block). c.first) b live in
     record {
       free = omega arith;
       apart = of-live (λ c. blocks_apart c b) live cached apart;
@@ -158,7 +158,7 @@ reused room live front s back h =
     let all : all_blocks (add_block (block_of s) live) (front ++ back) ≡ all_blocks live (front ++ s ∷ back) = all-add live (front ++ back) (block_of s) (differ-all (block_of s) (front ++ back) own pages others) ∙ sym o.all in
     let one_space = all-others S front s back h.one_space in
     let long = length-out front s back in
-    let one = length-add (block_of s) live in
+    let one = length-insert (λ (c : Block). c.first) (block_of s) live in
     let few = h.few in
     let itself : same_block (block_of s) (bytes_of (run_of_span s)) ≡ true = ap (same_block (block_of s)) (whole-bytes (block_of s) o.paged) ∙ same_block-refl (block_of s) in
     record {
@@ -222,7 +222,7 @@ freed room live cached s h of among =
     ∙ ap (λ l. add_block (block_of s) (all_blocks (drop_block (block_of s) live) l)) (nothing-behind cached)
     ∙ sym (all-add (drop_block (block_of s) live) cached (block_of s) (differ-all (block_of s) cached (omega arith) pages others)) ∙ ap (λ l. all_blocks l cached) back in
     let spaces = spaces-agree cached s of h.one_space in
-    let one = length-add (block_of s) (drop_block (block_of s) live) in
+    let one = length-insert (λ (c : Block). c.first) (block_of s) (drop_block (block_of s) live) in
     let was = ap length back in
     let long = length-out cached s [] in
     let none = ap length (nothing-behind cached) in

@@ -5,3 +5,4 @@ pub mod Runs
 pub mod OneOut
 pub mod Keeping
 pub mod Finding
+pub mod Tested

@@ -14,7 +14,7 @@ use Rattle.mz_events.specs.Changes.{run_of}
 use Rattle.mz_large.specs.Blocks.{IsPaged, IsTiled}
 use Rattle.mz_large.specs.Large.{block_of, run_of_span, space_of, space_while, all_blocks}
 use Rattle.mz_large.proofs.Tiled.{blocks_apart-comm, same_block-true}
-use Rattle.mz_large.proofs.Places.{length-add}
+use Rattle.mz_large.proofs.Places.{length-insert}
 use Rattle.mz_large.proofs.Runs.{add-here, add-later, add-nil, apart-differ, apart-other, whole-bytes}
 
 -- cached runs that are apart from a block begin elsewhere
@@ -124,7 +124,7 @@ has-cached (t ∷ ts) s back = or_right (same_run (run_of_span s) (run_of_span t
 -- as many runs as blocks and cached runs
 pub length-all : (live : List Block) (cs : List SpanView) → length (all_blocks live cs) ≡ length live + length cs
 length-all live [] = omega arith
-length-all live (s ∷ ss) = let more = length-add (block_of s) live in let rest = length-all (add_block (block_of s) live) ss in omega arith
+length-all live (s ∷ ss) = let more = length-insert (λ (c : Block). c.first) (block_of s) live in let rest = length-all (add_block (block_of s) live) ss in omega arith
 
 pub length-out : (front : List SpanView) (s : SpanView) (back : List SpanView) → length (front ++ s ∷ back) ≡ length (front ++ back) + 1
 length-out [] s back = omega arith

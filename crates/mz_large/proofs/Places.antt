@@ -95,15 +95,7 @@ added-tiled end ys live xs b same h paged within apart is =
     subst (λ l. IsTiled end 0 l) (sym is)
     (tiled-add end live 0 b (subst (λ l. IsTiled end 0 l) same h) (record { low = omega arith; paged = paged; high = within }) apart)
 
--- a block of the list has a place in it, and what was removed there was dropped
-pub placed-within : (end : ℕ)
-    (ys live : List Block) (b : Block) (f i : ℕ) → ys ≡ live → IsTiled end 0 ys → has_block live b ≡ true → f ≡ b.first → IsPlaceOf live f i → i < length ys
-placed-within end ys live b f i same h among first place =
-    let tiled = subst (λ l. IsTiled end 0 l) same h in
-    let lengths = ap (λ l. length l) same in
-    let within = (drop-remove end live 0 b i tiled among (subst (λ g. IsPlaceOf live g i) first place)).0 in
-    omega arith
-
+-- what was removed at the place of a block was dropped
 pub removed-dropped : (end : ℕ)
     (ys live xs : List Block) (b : Block) (f i : ℕ) → ys ≡ live → IsTiled end 0 ys → has_block live b ≡ true → f ≡ b.first → IsPlaceOf live f i → xs ≡ remove ys i →
     xs ≡ drop_block b live
@@ -188,14 +180,14 @@ not-there end bs x b i d h place other =
       | inr none ↦ none
     ]
 
--- one block more
-pub length-add : (b : Block) (bs : List Block) → length (add_block b bs) ≡ length bs + 1
+-- one element more
+pub length-insert : {A : Type 0} (key : A → ℕ) (x : A) (xs : List A) → length (insert_by key x xs) ≡ length xs + 1
 unfolding insert_by
-length-add b [] = refl
-length-add b (c ∷ cs) =
-    elim (cases_Bool (nat_lt b.first c.first)) [
-      | inl low ↦ let e = ap length (cond-true (nat_lt b.first c.first) (b ∷ c ∷ cs) (c ∷ add_block b cs) low) in omega arith
-      | inr high ↦ let e = ap length (cond-false (nat_lt b.first c.first) (b ∷ c ∷ cs) (c ∷ add_block b cs) high) in let rest = length-add b cs in omega arith
+length-insert key x [] = refl
+length-insert key x (y ∷ ys) =
+    elim (cases_Bool (nat_lt (key x) (key y))) [
+      | inl low ↦ let e = ap length (cond-true (nat_lt (key x) (key y)) (x ∷ y ∷ ys) (y ∷ insert_by key x ys) low) in omega arith
+      | inr high ↦ let e = ap length (cond-false (nat_lt (key x) (key y)) (x ∷ y ∷ ys) (y ∷ insert_by key x ys) high) in let rest = length-insert key x ys in omega arith
     ]
 
 -- the blocks before the place begin in pages up to this one, and the others in later ones

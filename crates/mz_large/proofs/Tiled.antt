@@ -112,51 +112,15 @@ tiled-add end (c ∷ cs) x b h placed apart =
     let above : block_end c ≤ b.first = apart_orders c b parts.0 k (omega arith) in
     (h.0, h.1, tiled-add end cs (block_end c) b h.2 (record { low = above; paged = placed.paged; high = placed.high }) parts.1))
 
--- what holds of each block and of one more holds of each when that is added
-pub all-add : (q : Block → Bool) (bs : List Block) (b : Block) → q b ≡ true → list_all q bs ≡ true → list_all q (add_block b bs) ≡ true
+-- what holds of each and of one more holds of each when that is added
+pub all-insert : {A : Type 0} (key : A → ℕ) (q : A → Bool) (xs : List A) (x : A) → q x ≡ true → list_all q xs ≡ true → list_all q (insert_by key x xs) ≡ true
 unfolding insert_by
-all-add q [] b own h = and_from (q b) true own refl
-all-add q (c ∷ cs) b own h =
-    let parts = and_parts (q c) (list_all q cs) h in
-    cond_both (nat_lt b.first c.first) (b ∷ c ∷ cs) (c ∷ add_block b cs) (λ l. list_all q l ≡ true)
-    (λ _. and_from (q b) (list_all q (c ∷ cs)) own h)
-    (λ _. and_from (q c) (list_all q (add_block b cs)) parts.0 (all-add q cs b own parts.1))
-
--- and of each that is left when one is dropped
-pub all-drop : (q : Block → Bool) (bs : List Block) (c : Block) → list_all q bs ≡ true → list_all q (drop_block c bs) ≡ true
-all-drop q [] c h = refl
-all-drop q (b ∷ bs) c h =
-    let parts = and_parts (q b) (list_all q bs) h in
-    let rest = all-drop q bs c parts.1 in
-    cond_both (not (same_block c b)) (b ∷ drop_block c bs) (drop_block c bs) (λ l. list_all q l ≡ true)
-    (λ _. and_from (q b) (list_all q (drop_block c bs)) parts.0 rest) (λ _. rest)
-
--- a block that is apart from each, and from one more, is apart from each when that is added
-pub apart-add : (bs : List Block) (b f : Block) → list_all (λ c. blocks_apart c f) bs ≡ true → blocks_apart b f ≡ true → list_all (λ c. blocks_apart c f) (add_block b bs) ≡ true
-apart-add bs b f h own = all-add (λ c. blocks_apart c f) bs b own h
-
-pub apart-drop : (bs : List Block) (c f : Block) → list_all (λ d. blocks_apart d f) bs ≡ true → list_all (λ d. blocks_apart d f) (drop_block c bs) ≡ true
-apart-drop bs c f h = all-drop (λ d. blocks_apart d f) bs c h
-
--- each of the tiled blocks is apart from all the others
-pub tiled-others : (end : ℕ) (bs : List Block) (x : ℕ) (c : Block) → IsTiled end x bs → has_block bs c ≡ true → list_all (λ d. blocks_apart d c) (drop_block c bs) ≡ true
-tiled-others end [] x c h among = refl
-tiled-others end (b ∷ bs) x c h among =
-    cond_both (not (same_block c b)) (b ∷ drop_block c bs) (drop_block c bs) (λ l. list_all (λ d. blocks_apart d c) l ≡ true)
-    (λ other. elim (or_cases (same_block c b) (has_block bs c) among) [
-      | inl here ↦ absurd (false≢true (sym (ap not here) ∙ other))
-      | inr later ↦
-          let low = (tiled-member end bs (block_end b) c h.2 later).low in
-          and_from (blocks_apart b c) (list_all (λ d. blocks_apart d c) (drop_block c bs)) (apart_below b c low) (tiled-others end bs (block_end b) c h.2 later)
-    ])
-    (λ same. elim (cases_Bool (same_block c b)) [
-      | inl here ↦
-          let is = same_block-true c b here in
-          let rest : list_all (λ d. blocks_apart d c) bs ≡ true =
-          tiled-all end (λ d. blocks_apart d c) bs (block_end b) (λ d placed. apart_above d c (subst (λ e. block_end e ≤ d.first) (sym is) placed.low)) h.2 in
-          apart-drop bs c c rest
-      | inr there ↦ absurd (false≢true (sym same ∙ ap not there))
-    ])
+all-insert key q [] x own h = and_from (q x) true own refl
+all-insert key q (y ∷ ys) x own h =
+    let parts = and_parts (q y) (list_all q ys) h in
+    cond_both (nat_lt (key x) (key y)) (x ∷ y ∷ ys) (y ∷ insert_by key x ys) (λ l. list_all q l ≡ true)
+    (λ _. and_from (q x) (list_all q (y ∷ ys)) own h)
+    (λ _. and_from (q y) (list_all q (insert_by key x ys)) parts.0 (all-insert key q ys x own parts.1))
 
 -- a block that begins before all of them is none of them
 drop-none : (end : ℕ) (bs : List Block) (x : ℕ) (c : Block) → IsTiled end x bs → c.first < x → drop_block c bs ≡ bs

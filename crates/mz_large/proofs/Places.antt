@@ -1,7 +1,7 @@
 -- The place of a block among tiled ones: adding and dropping it by its place.
 use Rattle.std.proofs.Common.{◌≡◌, ℕ, suc, zero, ◌+◌, ◌<◌, ◌≤◌, true, false, Option, Some, None, List, [], ◌∷◌, length, get_or, refl, ap, sym, subst, ◌∙◌, inl, inr, arith}
 use Rattle.std.specs.Prelude.{◌/◌, ◌==◌, nat_le, nat_lt, find, insert, remove}
-use Rattle.std.specs.List.{list_all, list_any, AllWithin}
+use Rattle.std.specs.List.{list_all, list_any}
 use Rattle.std.proofs.lemmas.Nat.{div-add-mod'}
 use Rattle.mz_events.specs.Separation.{has_page}
 use Rattle.mz_events.specs.Changes.{run_of}
@@ -10,8 +10,8 @@ use Rattle.std.proofs.lemmas.Bool.{cases_Bool, and_parts, and_from, and_left, an
 use Rattle.mz_base.specs.Space.{Block, block_end, blocks_apart, same_block}
 use Rattle.mz_base.specs.Lists.{insert_by, has_block, add_block, drop_block, size_at}
 use Rattle.mz_base.specs.declared.range.TheConstants.{PAGE}
-use Rattle.mz_large.specs.Blocks.{IsPaged, IsTiled, IsPlaceOf}
-use Rattle.mz_large.proofs.Tiled.{blocks_apart-comm, apart_orders, tiled-add, tiled-drop, tiled-member, same_block-true, same_block-refl, drop-first, drop-later}
+use Rattle.mz_large.specs.Blocks.{IsPaged, IsTiled, IsPlaceOf, IsPlaceBehind}
+use Rattle.mz_large.proofs.Tiled.{blocks_apart-comm, apart_orders, tiled-drop, tiled-member, same_block-true, same_block-refl, drop-first, drop-later}
 
 -- each block begins at or behind x
 pub tiled-low : (end : ℕ) (bs : List Block) (x j : ℕ) (d : Block) → IsTiled end x bs → j < length bs → x ≤ (get_or bs j d).first
@@ -78,22 +78,6 @@ drop-remove end (c ∷ cs) x b (suc i) h among place =
           let rest = drop-remove end cs (block_end c) b i h.2 later (place-tail c cs b.first i place) in
           (omega arith, ap (λ l. c ∷ l) rest.1 ∙ sym (drop-later end c cs x b h order))
     ]
-
--- and so was one that was inserted at its place
-pub inserted-added : (end : ℕ)
-    (ys live xs : List Block) (b : Block) (f i : ℕ) → ys ≡ live → IsTiled end 0 ys → IsPaged b → list_all (λ c. blocks_apart c b) live ≡ true → xs ≡ insert ys i b →
-    f ≡ b.first → IsPlaceOf live f i → xs ≡ add_block b live
-inserted-added end ys live xs b f i same h paged apart is first place =
-    let tiled = subst (λ l. IsTiled end 0 l) same h in
-    is ∙ ap (λ l. insert l i b) same ∙ add-insert end live 0 b i tiled paged apart (subst (λ g. IsPlaceOf live g i) first place)
-
--- what was added to keeps its form
-pub added-tiled : (end : ℕ)
-    (ys live xs : List Block) (b : Block) → ys ≡ live → IsTiled end 0 ys → IsPaged b → block_end b ≤ end → list_all (λ c. blocks_apart c b) live ≡ true →
-    xs ≡ add_block b live → IsTiled end 0 xs
-added-tiled end ys live xs b same h paged within apart is =
-    subst (λ l. IsTiled end 0 l) (sym is)
-    (tiled-add end live 0 b (subst (λ l. IsTiled end 0 l) same h) (record { low = omega arith; paged = paged; high = within }) apart)
 
 -- what was removed at the place of a block was dropped
 pub removed-dropped : (end : ℕ)
@@ -190,19 +174,13 @@ length-insert key x (y ∷ ys) =
       | inr high ↦ let e = ap length (cond-false (nat_lt (key x) (key y)) (x ∷ y ∷ ys) (y ∷ insert_by key x ys) high) in let rest = length-insert key x ys in omega arith
     ]
 
--- the blocks before the place begin in pages up to this one, and the others in later ones
-pub record IsPageSplit (bs : List Block) (page i : ℕ) : Type 0 where
-  pub within : i ≤ length bs
-  pub before : AllWithin (λ c. c.first / PAGE ≤ page) bs 0 i
-  pub behind : AllWithin (λ c. page < c.first / PAGE) bs i (length bs)
-
 div_up : (a b : ℕ) → a ≤ b → a / PAGE ≤ b / PAGE
 div_up a b h = omega (arith, div-add-mod' a PAGE, div-add-mod' b PAGE)
 
 pub pages-ascend : (end : ℕ) (bs : List Block) → IsTiled end 0 bs → IsNonDecreasingBy (λ (c : Block). c.first / PAGE) bs
 pages-ascend end bs h i j d order within = div_up (get_or bs i d).first (get_or bs j d).first (tiled-ascends end bs 0 h i j d order within)
 
-pub split-found : (ys : List Block) (page i : ℕ) → i ≤ length ys → IsPartitionPoint (λ (c : Block). nat_le (c.first / PAGE) page ≡ true) (λ (c : Block). nat_le (c.first / PAGE) page ≡ false) ys i → IsPageSplit ys page i
+pub split-found : (ys : List Block) (page i : ℕ) → i ≤ length ys → IsPartitionPoint (λ (c : Block). nat_le (c.first / PAGE) page ≡ true) (λ (c : Block). nat_le (c.first / PAGE) page ≡ false) ys i → IsPlaceBehind ys page i
 split-found ys page i within parts =
     record {
       within = within;
@@ -210,7 +188,7 @@ split-found ys page i within parts =
       behind = λ k d low high. leb-false ((get_or ys k d).first / PAGE) page (parts.1 k d low high);
     }
 
-split-tail : (c : Block) (cs : List Block) (page i : ℕ) → IsPageSplit (c ∷ cs) page (suc i) → IsPageSplit cs page i
+split-tail : (c : Block) (cs : List Block) (page i : ℕ) → IsPlaceBehind (c ∷ cs) page (suc i) → IsPlaceBehind cs page i
 split-tail c cs page i h =
     let within = h.within in
     record {
@@ -230,14 +208,14 @@ pub page-within : (c : Block) (page : ℕ) → c.first / PAGE ≤ page → page 
 page-within c page low high = and_from (nat_le (c.first / PAGE) page) (nat_lt page (c.first / PAGE + c.size / PAGE)) (le-leb (c.first / PAGE) page low) (lt-ltb page (c.first / PAGE + c.size / PAGE) high)
 
 -- no run has a page that is before each
-pub held-none : (bs : List Block) (page : ℕ) → IsPageSplit bs page 0 → list_any (λ b. has_page (run_of b) page) bs ≡ false
+pub held-none : (bs : List Block) (page : ℕ) → IsPlaceBehind bs page 0 → list_any (λ b. has_page (run_of b) page) bs ≡ false
 held-none [] page h = refl
 held-none (c ∷ cs) page h =
     or_from (has_page (run_of c) page) (list_any (λ b. has_page (run_of b) page) cs) (page-below c page (h.behind 0 c (omega arith) (omega arith)))
     (held-none cs page (record { within = omega arith; before = λ k d low high. absurd (omega arith); behind = λ k d low high. h.behind (suc k) d (omega arith) (omega arith) }))
 
 -- the last that begins at it or before has it, or none
-pub held-not : (end : ℕ) (bs : List Block) (x page k : ℕ) (d : Block) → IsTiled end x bs → IsPageSplit bs page (suc k) → has_page (run_of (get_or bs k d)) page ≡ false → list_any (λ b. has_page (run_of b) page) bs ≡ false
+pub held-not : (end : ℕ) (bs : List Block) (x page k : ℕ) (d : Block) → IsTiled end x bs → IsPlaceBehind bs page (suc k) → has_page (run_of (get_or bs k d)) page ≡ false → list_any (λ b. has_page (run_of b) page) bs ≡ false
 held-not end [] x page k d h split none = refl
 held-not end (c ∷ cs) x page zero d h split none =
     or_from (has_page (run_of c) page) (list_any (λ b. has_page (run_of b) page) cs) none (held-none cs page (split-tail c cs page 0 split))

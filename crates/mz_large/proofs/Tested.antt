@@ -8,7 +8,6 @@ use Rattle.std.proofs.lemmas.List.Elements.{All-nil, All-cons, All-head, All-tai
 use Rattle.mz_base.specs.declared.range.TheConstants.{PAGE}
 use Rattle.mz_base.specs.Site.{Site}
 use Rattle.mz_base.specs.Space.{Run, run_end, runs_apart}
-use Rattle.mz_base.specs.Lists.{add_run}
 use Rattle.mz_ground.specs.Views.{SpanView}
 use Rattle.mz_events.specs.declared.place.Place.{Place}
 use Rattle.mz_events.specs.declared.place.Place.TheVariants.{Large}
@@ -111,7 +110,7 @@ while-of (r ∷ rs) o x of = of
 
 pub space-after-free : (old new : LargeKept) (s : SpanView) (out : Option SpanView) (x : Site) → s.space ≡ x
     → ((q : Place) → IsTrue (is_large q) → let freed = record old { space = Some s.space; kept = without_block q (block_of s) old.kept } in
-        MatchOption out ((length old.kept.cached < 16) × (new ≡ freed)) (λ t. (length old.kept.cached ≡ 16) × (freed.kept.cached ≡ run_of_span t ∷ new.kept.cached) × HandsOut freed t new))
+    MatchOption out ((length old.kept.cached < 16) × (new ≡ freed)) (λ t. (length old.kept.cached ≡ 16) × (freed.kept.cached ≡ run_of_span t ∷ new.kept.cached) × HandsOut freed t new))
     → IsOf new.space x
 space-after-free old new s None x of done = subst (λ o. IsOf o x) (sym (ap (λ (v : LargeKept). v.space) (done (Large 0) refl).1)) of
 space-after-free old new s (Some t) x of done = subst (λ o. IsOf o x) (sym (ap (λ (v : LargeKept). v.space) (done (Large 0) refl).2.left)) (while-of new.kept.cached (Some s.space) x of)

@@ -2,7 +2,7 @@
 use Rattle.std.proofs.Common.{◌≡◌, ℕ, ◌<◌, ◌≤◌, Bool, true, false, not, List, [], ◌∷◌, refl, ap, sym, subst, ◌∙◌, inl, inr, arith}
 use Rattle.std.specs.Prelude.{◌||◌, ◌==◌, nat_le, nat_lt}
 use Rattle.std.specs.List.{list_all}
-use Rattle.std.proofs.lemmas.Bool.{and_parts, and_from, and_left, or_cases, or_left, or_right, cases_Bool, false≢true, leb-true, le-leb, ltb-true, ltb-false, eqb-true, eq-eqb, ne_eqb, cond-true, cond-false, cond_both}
+use Rattle.std.proofs.lemmas.Bool.{and_parts, and_from, and_left, or_cases, or_left, or_right, false≢true, leb-true, le-leb, ltb-true, ltb-false, eqb-true, eq-eqb, ne_eqb, cond-true, cond-false, cond_both}
 use Rattle.mz_base.specs.Space.{Block, block_end, blocks_apart, same_block}
 use Rattle.mz_base.specs.Lists.{insert_by, has_block, add_block, drop_block}
 use Rattle.mz_large.specs.Blocks.{IsPaged, IsTiled}

@@ -1,5 +1,5 @@
 -- Blocks of whole pages in the order of their addresses. This project's own.
-use Rattle.std.specs.Prelude.{◌≡◌, ℕ, ◌%◌, ◌<◌, ◌≤◌, List, [], ◌∷◌, length, refl}
+use Rattle.std.specs.Prelude.{◌≡◌, ℕ, ◌/◌, ◌%◌, ◌<◌, ◌≤◌, List, [], ◌∷◌, length, refl}
 use Rattle.std.specs.List.{AllWithin}
 use Rattle.std.specs.Coded.{Coded, code_by, coded×, coded_list, coded_ℕ}
 use Rattle.mz_base.specs.declared.range.TheConstants.{PAGE}
@@ -32,3 +32,9 @@ pub record IsPlaceOf (blocks : List Block) (t place : ℕ) : Type 0 where
   pub within : place ≤ length blocks
   pub before : AllWithin (λ c. c.first < t) blocks 0 place
   pub behind : AllWithin (λ c. t ≤ c.first) blocks place (length blocks)
+
+-- The blocks that begin in this page or before it stand before the place, and the others behind it.
+pub record IsPlaceBehind (blocks : List Block) (page place : ℕ) : Type 0 where
+  pub within : place ≤ length blocks
+  pub before : AllWithin (λ c. c.first / PAGE ≤ page) blocks 0 place
+  pub behind : AllWithin (λ c. page < c.first / PAGE) blocks place (length blocks)

@@ -7,7 +7,7 @@ ghost use Rattle.mz_base.specs.Space.{block_at, block_end, blocks_apart, run_at}
 ghost use Rattle.mz_base.specs.Lists.{has_block, add_block, drop_block, size_at};
 ghost use Rattle.mz_events.specs.Separation.{has_page};
 ghost use Rattle.mz_events.specs.Changes.{run_of};
-ghost use Rattle.mz_large.specs.Blocks.{IsPaged, IsPlaceOf};
+ghost use Rattle.mz_large.specs.Blocks.{IsPaged, IsPlaceOf, IsPlaceBehind};
 
 use mz_base::PAGE;
 use mz_ground::Span;
@@ -99,7 +99,7 @@ impl Live {
         ensures { MatchOption result (list_any (λ b. has_page (run_of b) page) self.now.blocks ≡ false)
             (λ b. (has_block self.now.blocks b ≡ true) × (has_page (run_of b) page ≡ true)) }
     {
-        let behind = self.items.partition_point(|b| b.first / PAGE <= page);
+        let behind = self.behind(page);
         if behind == 0 {
             return None;
         }
@@ -149,5 +149,12 @@ impl Live {
         ensures { IsPlaceOf self.now.blocks first result }
     {
         self.items.partition_point(|b| b.first < first)
+    }
+
+    // The place behind the blocks that begin in this page or before it.
+    fn behind(&self, page: u64) -> usize
+        ensures { IsPlaceBehind self.now.blocks page result }
+    {
+        self.items.partition_point(|b| b.first / PAGE <= page)
     }
 }

@@ -31,6 +31,9 @@ mod shelf;
 mod stock;
 mod way;
 
+#[cfg(test)]
+mod tests;
+
 pub use keeper::Keeper;
 pub use lot::{Lot, Null};
 pub use rack::Rack;

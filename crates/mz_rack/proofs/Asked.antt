@@ -2,6 +2,7 @@
 use Rattle.std.proofs.Common.{◌≡◌, true, ℕ, ◌≤◌, [], ap, sym, subst, ◌∙◌, refl, arith}
 use Rattle.std.specs.Prelude.{Result}
 use Rattle.mz_base.specs.declared.profile.Profile.{Profile}
+use Rattle.mz_base.specs.Limits.{IsWithinLimits, IsFrom}
 use Rattle.mz_base.specs.Site.{Site}
 use Rattle.mz_events.specs.State.{is_open, opening}
 use Rattle.mz_events.specs.History.{after_all}
@@ -10,6 +11,21 @@ use Rattle.mz_book.specs.Plain.{opening_account, Reserves, ActsAs}
 use Rattle.mz_rack.specs.declared.lot.Null.{Null}
 use Rattle.mz_rack.specs.Lots.{LotView}
 use Rattle.mz_rack.specs.Serving.{CanServe, Answers}
+
+-- what the tests ask of
+abbrev pub tested : ℕ → ℕ → Profile
+tested pages magazines = record { pages = pages; callers = 3; magazines = magazines; nano = 0; most_gen = 1; zones = 1 }
+
+pub tested_limits : (pages magazines : ℕ) → IsFrom 1 16384 pages → IsFrom 1 16 magazines → IsWithinLimits (tested pages magazines)
+tested_limits pages magazines p m = record {
+  pages = p;
+  callers = (omega arith, omega arith);
+  magazines = m;
+  nano = (omega arith, omega arith);
+  nano_within = omega arith;
+  most_gen = (omega arith, omega arith);
+  zones = (omega arith, omega arith);
+}
 
 open_at_first : (p : Profile) → is_open (after_all p opening []) 0 ≡ true
 unfolding after_all

@@ -29,10 +29,9 @@ mod region;
 mod serve;
 mod shelf;
 mod stock;
-mod way;
-
 #[cfg(test)]
 mod tests;
+mod way;
 
 pub use keeper::Keeper;
 pub use lot::{Lot, Null};

@@ -1,4 +1,5 @@
 #![tactic(none)]
+
 ghost use Rattle.std.specs.Prelude.{◌≡◌, ℕ, ◌<◌, ◌≤◌, IfOk};
 ghost use Rattle.std.specs.Int.{IsPowerOfTwo};
 ghost use Rattle.mz_base.specs.Limits.{IsWithinLimits, IsFrom};
@@ -21,32 +22,30 @@ const SMALL: Place = Place::Small { zone: 0, mag: 0 };
 
 const SMALL_DEPOT: Place = Place::SmallDepot { zone: 0 };
 
+// A book of all keepers of a space without nano, without entries, and the rack of zone 0.
 #[tactic(auto)]
-fn profile_of(pages: u64, magazines: u32, zones: u32) -> Profile
-    ensures { result ≡ record { pages = pages; callers = 3; magazines = magazines; nano = 0; most_gen = 1; zones = zones } }
+fn setting(
+    alloc: Global,
+    pages: u64,
+    magazines: u32,
+) -> Result<(PlainBook<Keeper>, Rack), AllocError>
+    requires pages { IsFrom 1 16384 pages }
+    requires magazines { IsFrom 1 16 magazines }
+    ensures can { IfOk result (λ s. CanServe (⟦<PlainBook<Keeper> as Book<Keeper>>⟧.account s.0) s.1.profile s.1.zone 0) }
+    ensures callers { IfOk result (λ s. s.1.profile.callers ≡ 3) }
 {
-    Profile {
+    let p = Profile {
         pages,
         callers: 3,
         magazines,
         nano: 0,
         most_gen: 1,
-        zones,
-    }
-}
-
-// A book of all keepers of a space, without entries, and the rack of zone 0.
-#[tactic(auto)]
-fn setting(alloc: Global, p: &Profile) -> Result<(PlainBook<Keeper>, Rack), AllocError>
-    requires limits { IsWithinLimits p.now }
-    requires no_nano { p.now.nano ≡ 0 }
-    ensures can { IfOk result (λ s. CanServe (⟦<PlainBook<Keeper> as Book<Keeper>>⟧.account s.0) s.1.profile s.1.zone 0) }
-    ensures profile { IfOk result (λ s. s.1.profile ≡ p.now) }
-{
-    let span = Space::new(alloc, p.pages)?;
-    let keepers = Keeper::all(alloc, p, span)?;
-    let book = PlainBook::new(alloc, p, keepers)?;
-    let rack = Rack::new(alloc, p, 0)?;
+        zones: 1,
+    };
+    let span = Space::new(alloc, pages)?;
+    let keepers = Keeper::all(alloc, &p, span)?;
+    let book = PlainBook::new(alloc, &p, keepers)?;
+    let rack = Rack::new(alloc, &p, 0)?;
     Ok((book, rack))
 }
 
@@ -85,7 +84,7 @@ fn same_events(history: &[Entry], from: usize, events: &[Event]) -> bool {
 }
 
 #[tactic(auto)]
-fn is_send_and_sync<T: Send + Sync>(_value: &T) {}
+fn is_send_and_sync<T: Send + Sync>() {}
 
 const FIRST_REQUESTS: [Event; 8] = [
     Event::Full {
@@ -132,20 +131,25 @@ const FIRST_REQUESTS: [Event; 8] = [
     },
 ];
 
+#[tactic(auto)]
+#[test]
+fn keepers_and_lots_go_from_thread_to_thread() {
+    is_send_and_sync::<Keeper>();
+    is_send_and_sync::<Lot>();
+}
+
+#[tactic(auto)]
 #[test]
 fn tiny_comes_from_a_fresh_region_and_then_from_the_magazine(rt: HostRuntime) -> Result<(), Fail> {
-    let p = profile_of(576, 1, 1);
-    let (mut book, rack) = setting(rt.alloc(), &p)?;
+    let (mut book, rack) = setting(rt.alloc(), 576, 1)?;
     let Ok(a) = ask(&rt, &rack, &mut book, 0, 40, 16)? else {
         return Err(Fail::new("pages are free"));
     };
     let Ok(b) = ask(&rt, &rack, &mut book, 0, 0, 32)? else {
         return Err(Fail::new("the region has room"));
     };
-    is_send_and_sync(&a);
-    is_send_and_sync(book.keeper(0));
     assert_eq!(rt; (a.zone(), a.first(), a.size()), (0, 0, 48));
-    assert_eq!(rt; (b.first(), b.size()), (64, 16));
+    assert_eq!(rt; (b.zone(), b.first(), b.size()), (0, 64, 16));
     // No 512 pages at a multiple of 512 are free.
     let Err(null) = ask(&rt, &rack, &mut book, 0, 2_000, 16)? else {
         return Err(Fail::new("no run is free"));
@@ -202,18 +206,17 @@ const SMALL_IS_FILLED: [Event; 7] = [
     },
 ];
 
+#[tactic(auto)]
 #[test]
 fn a_small_region_is_filled_to_its_last_quantum(rt: HostRuntime) -> Result<(), Fail> {
-    let p = profile_of(512, 1, 1);
-    let (mut book, rack) = setting(rt.alloc(), &p)?;
+    let (mut book, rack) = setting(rt.alloc(), 512, 1)?;
     for _ in 0..256 {
         let got = ask(&rt, &rack, &mut book, 0, 32_768, 16)?;
         assert!(rt; got.is_ok());
     }
-    for n in [1_009, 1] {
-        let got = ask(&rt, &rack, &mut book, 0, n, 16)?;
-        assert!(rt; got.is_err());
-    }
+    let small = ask(&rt, &rack, &mut book, 0, 1_009, 16)?;
+    let tiny = ask(&rt, &rack, &mut book, 0, 1, 16)?;
+    assert!(rt; small.is_err() && tiny.is_err());
     assert!(rt; same_events(book.history(), 258, SMALL_IS_FILLED.as_slice()));
     Ok(())
 }
@@ -243,18 +246,17 @@ const TINY_IS_FILLED: [Event; 4] = [
     },
 ];
 
+#[tactic(auto)]
 #[test]
 fn a_tiny_region_is_filled_to_its_last_quantum(rt: HostRuntime) -> Result<(), Fail> {
-    let p = profile_of(64, 1, 1);
-    let (mut book, rack) = setting(rt.alloc(), &p)?;
+    let (mut book, rack) = setting(rt.alloc(), 64, 1)?;
     for _ in 0..1_040 {
         let got = ask(&rt, &rack, &mut book, 0, 1_008, 16)?;
         assert!(rt; got.is_ok());
     }
     let rest = ask(&rt, &rack, &mut book, 0, 256, 16)?;
-    assert!(rt; rest.is_ok());
     let none = ask(&rt, &rack, &mut book, 0, 16, 16)?;
-    assert!(rt; none.is_err());
+    assert!(rt; rest.is_ok() && none.is_err());
     assert!(rt; same_events(book.history(), 1_043, TINY_IS_FILLED.as_slice()));
     Ok(())
 }

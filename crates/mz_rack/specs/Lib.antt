@@ -7,5 +7,6 @@ pub mod Answering
 pub mod Lots
 pub mod Ways
 pub mod Serving
+pub mod Freeing
 pub mod Stages
 pub mod BookLaws

@@ -241,4 +241,65 @@ impl Keeper {
     {
         let _kind = &self.kind;
     }
+
+    // Takes a live block of a magazine or a depot back.
+    pub(crate) fn free(&mut self, span: Span) {
+        let freed = match &mut self.kind {
+            Kind::Tiny(shelf) => shelf.magazine.free(span),
+            Kind::Small(shelf) => shelf.magazine.free(span),
+            Kind::Pages(_) | Kind::Large => Err(span),
+        };
+        if freed.is_err() {
+            unreachable!()
+        }
+    }
+
+    // The first page of the lowest sparse region of a magazine in excess, which it owes to its depot.
+    pub(crate) fn surplus(&self) -> Option<u64> {
+        let sparse = match &self.kind {
+            Kind::Tiny(shelf) if shelf.magazine.excess() => shelf.magazine.sparse(),
+            Kind::Small(shelf) if shelf.magazine.excess() => shelf.magazine.sparse(),
+            _ => None,
+        };
+        match sparse {
+            Some(a) => Some(a / PAGE),
+            None => None,
+        }
+    }
+
+    // The first page of a depot's lowest region without live blocks, which it owes to the pages.
+    pub(crate) fn unused(&self) -> Option<u64> {
+        let empty = match &self.kind {
+            Kind::Tiny(shelf) => shelf.magazine.empty(),
+            Kind::Small(shelf) => shelf.magazine.empty(),
+            Kind::Pages(_) | Kind::Large => None,
+        };
+        match empty {
+            Some(a) => Some(a / PAGE),
+            None => None,
+        }
+    }
+
+    // Takes the pages of a region without live blocks back, and keeps its metadata for another one.
+    pub(crate) fn put_back(&mut self, region: AnyRegion) {
+        let Kind::Pages(stock) = &mut self.kind else {
+            unreachable!()
+        };
+        match region {
+            AnyRegion::Tiny(region) => match region.strip() {
+                Ok((span, blank)) => {
+                    stock.pages.back(span);
+                    stock.tiny.push_reserved(blank);
+                }
+                Err(_) => unreachable!(),
+            },
+            AnyRegion::Small(region) => match region.strip() {
+                Ok((span, blank)) => {
+                    stock.pages.back(span);
+                    stock.small.push_reserved(blank);
+                }
+                Err(_) => unreachable!(),
+            },
+        }
+    }
 }

@@ -9,4 +9,6 @@ pub mod Ways
 pub mod Serving
 pub mod Freeing
 pub mod Stages
+pub mod Ending
+pub mod FreeStages
 pub mod BookLaws

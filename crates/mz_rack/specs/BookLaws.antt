@@ -39,6 +39,7 @@ pub record BookLaws : Type 0 where
   pub note : (s t : Account) (e : Event) (n : ℕ) → CanNote s e → changes_zones e ≡ false → Notes s e n t → GrowsHolding s (entry_at n s.caller e ∷ []) 0 t
   pub joined : (s t u : Account) (xs ys : List Entry) (m n : ℕ) → GrowsHolding s xs m t → GrowsHolding t ys n u → GrowsHolding s (xs ++ ys) (m + n) u
   pub ended : (s t u : Account) (xs ys : List Entry) (m n : ℕ) → GrowsHolding s xs m t → Grows t ys n u → Grows s (xs ++ ys) (m + n) u
+  pub looked : (s t : Account) (n : ℕ) → s.held ≡ [] → Grows s [] n t → GrowsHolding s [] n t
   pub release : (s t u : Account) (xs : List Entry) (n k : ℕ) → Grows s xs n t → Releases t k u → Grows s xs n u
   pub number : (p : Profile) (q : Place) → is_nano q ≡ false → IsTrue (exists_in p q) → keeper_of p q < keeper_count p
   pub place : (p : Profile) (q : Place) → is_nano q ≡ false → IsTrue (exists_in p q) → place_at p (keeper_of p q) ≡ q

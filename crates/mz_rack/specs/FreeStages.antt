@@ -30,12 +30,13 @@ use Rattle.mz_rack.specs.Ways.{IsWay}
 use Rattle.mz_rack.specs.Freeing.{block_of}
 use Rattle.mz_rack.specs.Stages.{at_magazine, at_depot, at_pages, Keeps}
 
--- nothing is held, and the block is in the hand, tiny or small, and of a zone of the profile
+-- nothing is held, and the block is in the hand, tiny or small, and of an open zone of the profile
 pub record CanLook (s : Account) (p : Profile) (l : LotView) : Type 0 where
   pub limits : IsWithinLimits p
   pub profile : s.profile ≡ p
   pub nothing_held : s.held ≡ []
   pub zone : l.zone < p.zones
+  pub zone_open : IsTrue (is_open (state_of s) l.zone)
   pub some : 1 ≤ length l.span.bytes
   pub small : length l.span.bytes ≤ 32768
   pub in_hand : IsTrue (has_block (hand s) (block_of l))

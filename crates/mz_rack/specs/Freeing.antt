@@ -5,8 +5,9 @@ use Rattle.mz_base.specs.declared.profile.Profile.{Profile}
 use Rattle.mz_base.specs.Space.{Block, block_at}
 use Rattle.mz_base.specs.Lists.{has_block}
 use Rattle.mz_events.specs.declared.entry.Entry.{Entry}
+use Rattle.mz_events.specs.State.{is_open}
 use Rattle.mz_record.specs.Dropped.{IsDropped, IsNotOfZone}
-use Rattle.mz_book.specs.Account.{Account, HoldsNothing, hand}
+use Rattle.mz_book.specs.Account.{Account, state_of, HoldsNothing, hand}
 use Rattle.mz_book.specs.Growth.{Grows}
 use Rattle.mz_rack.specs.declared.lot.NotLive.{NotLive}
 use Rattle.mz_rack.specs.Lots.{LotView}
@@ -15,10 +16,11 @@ use Rattle.mz_rack.specs.Lots.{LotView}
 abbrev pub block_of : LotView → Block
 block_of l = block_at l.span.first (length l.span.bytes)
 
--- the lot is in the hand and of a zone of the profile, and its bytes are of the space
+-- the lot is in the hand and of an open zone of the profile, and its bytes are of the space
 pub record IsFreeable (s : Account) (l : LotView) : Type 0 where
   pub in_hand : IsTrue (has_block (hand s) (block_of l))
   pub zone : l.zone < s.profile.zones
+  pub zone_open : IsTrue (is_open (state_of s) l.zone)
   pub space : l.span.space ≡ s.site
 
 -- a lot of zone z is dropped; one of another zone is denied by one entry, and comes back with the ticket of that

@@ -58,8 +58,10 @@ fn look_around<B: Book<Keeper>, R: Wait>(
         }
     }
     let way = find_way(p, lot.zone(), 0, lot.size());
-    let depot = look_into(rt, book, way.d, lot)?;
-    Some(Home::Depot(way, depot))
+    match look_into(rt, book, way.d, lot) {
+        Some(depot) => Some(Home::Depot(way, depot)),
+        None => None,
+    }
 }
 
 // Takes the keeper of number `k`, and gives it back where the block isn't there.

@@ -1,6 +1,6 @@
 -- Where a free stands between two calls of the book.
-use Rattle.std.specs.Prelude.{◌≡◌, ◌⊎◌, ℕ, ◌<◌, ◌≤◌, Bool, true, false, nat_lt, ◌||◌, List, [], ◌∷◌, ◌++◌, length, Option, Some, None, IsTrue}
-use Rattle.std.specs.List.{list_all}
+use Rattle.std.specs.Prelude.{◌≡◌, ◌⊎◌, ℕ, ◌<◌, ◌≤◌, false, nat_lt, ◌||◌, List, [], ◌∷◌, ◌++◌, length, Option, Some, None, IsTrue}
+use Rattle.std.specs.List.{All, list_all}
 use Rattle.mz_base.specs.Limits.{IsWithinLimits}
 use Rattle.mz_base.specs.declared.profile.Profile.{Profile}
 use Rattle.mz_base.specs.Space.{Block, block_at}
@@ -13,10 +13,10 @@ use Rattle.mz_events.specs.declared.entry.Entry.{Entry}
 use Rattle.mz_events.specs.Places.{is_magazine, is_depot, zone_of, depot_of, exists_in, Spot, same_spot, spot_of}
 use Rattle.mz_events.specs.State.{Kept, is_open}
 use Rattle.mz_events.specs.Changes.{without_block}
-use Rattle.mz_events.specs.Duties.{recirculation, empty_depot_region, duty_of_end}
+use Rattle.mz_events.specs.Duties.{is_that, recirculation, empty_depot_region, duty_of_end}
 use Rattle.mz_events.specs.Leaving.{left_by}
 use Rattle.mz_events.specs.Standing.{Keeping, Stands}
-use Rattle.mz_record.specs.Moments.{MeetDuties}
+use Rattle.mz_record.specs.Moments.{duty_left, MeetDuties}
 use Rattle.mz_record.specs.Dropped.{IsDropped, IsNotOfZone}
 use Rattle.mz_book.specs.Keepers.{keeper_count, keeper_of, keeper_spot, is_among}
 use Rattle.mz_book.specs.Account.{Account, state_of, known, hand, holds_spot, StandsFor, entry_at}
@@ -125,12 +125,8 @@ pub record Settles (s : Account) (w : Way) (t : Account) : Type 0 where
   pub held : t.held ≡ without w.d s.held
   pub stays : IsTrue (holds_spot s (at_magazine w)) → known t (at_magazine w) ≡ known s (at_magazine w)
   pub settled : ((known s (at_depot w)).duty ≡ None) × (mine ≡ [])
-      ⊎ ((f : ℕ) × (i : ℕ) × ((known s (at_depot w)).duty ≡ Some (Back w.depot f w.pages)) × (mine ≡ entry_at i s.caller (Back w.depot f w.pages) ∷ []))
-
--- the event is a way back to the pages
-abbrev pub is_back : Event → Bool
-is_back (Back k f w) = true
-is_back _ = false
+      ⊎ ((f : ℕ) × (i : ℕ) × ((known s (at_depot w)).duty ≡ Some (Back w.depot f w.pages)) × (mine ≡ entry_at i s.caller (Back w.depot f w.pages) ∷ [])
+      × (duty_left s.profile t.seen (entry_at i s.caller (Back w.depot f w.pages)) ≡ None))
 
 -- the region has moved, and each duty was met; nothing is held
 pub record HasMoved (s : Account) (w : Way) (f : ℕ) (t : Account) : Type 0 where
@@ -139,7 +135,7 @@ pub record HasMoved (s : Account) (w : Way) (f : ℕ) (t : Account) : Type 0 whe
   pub holds : ℕ
   pub grows : Grows s (entry_at ticket s.caller (Move f w.magazine w.depot) ∷ rest) holds t
   pub nothing_held : t.held ≡ []
-  pub none_again : IsTrue (list_all (λ e. is_back e.event) rest)
+  pub none_again : All (λ e. is_that (Move f w.magazine w.depot) e.event ≡ false) rest
   pub met : MeetDuties s.profile t.seen (entry_at ticket s.caller (Move f w.magazine w.depot)) rest
 
 -- the block is dropped by just these entries, and nothing is held

@@ -14,3 +14,5 @@ mod StockLemmas
 mod OpeningLemmas
 mod Looking
 mod Ended
+mod PuttingAside
+mod GivingBack

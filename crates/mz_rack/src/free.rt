@@ -148,6 +148,8 @@ fn give_back<B: Book<Keeper>, R: Wait>(rt: &R, book: &mut B, w: &Way, mut depot:
     ensures { Settles (B.account book.old) w.now (B.account book.new) }
 {
     of_books();
+    states_split();
+    moments();
     let mut pages = book.hold(rt, w.p);
     let region = depot.yield_region(first);
     book.note(Event::Back {

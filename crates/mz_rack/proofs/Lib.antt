@@ -16,3 +16,4 @@ mod Looking
 mod Ended
 mod PuttingAside
 mod GivingBack
+mod Dropping

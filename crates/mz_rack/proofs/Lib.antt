@@ -17,3 +17,4 @@ mod Ended
 mod PuttingAside
 mod GivingBack
 mod Dropping
+mod Asked

@@ -107,6 +107,7 @@ freeable s t u p z m n al k l H can zone answers more =
       zone_open = ap (λ y. is_open (state_of t) y) answers.answer.0 ∙ (adds.zones z ∙ can.zone_open);
       space = answers.answer.1 ∙ sym adds.same.site;
     })
+
 -- and after a free requests can be made again
 pub can_then : (s t : Account) (p : Profile) (z y m : ℕ) (l : LotView) (got : Result (Unit {0}) NotLive) → CanServe s p y m → Frees s z l got t → CanServe t p y 0
 can_then s t p z y m l got can frees =

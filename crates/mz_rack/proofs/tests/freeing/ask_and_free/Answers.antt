@@ -1,6 +1,6 @@
-use Rattle.std.proofs.Common.{◌≡◌, ◌<◌, ◌≤◌, ap, sym, subst, refl, ◌∙◌}
+use Rattle.std.proofs.Common.{◌<◌, sym, subst, refl}
 use Rattle.mz_base.specs.declared.profile.Profile.{Profile}
-use Rattle.mz_rack.proofs.Asked.{HandLaws, can_as, can_with, can_again, freeable, can_then}
+use Rattle.mz_rack.proofs.Asked.{HandLaws, can_as, can_with, can_again, freeable}
 use Rattle.mz_rack.proofs.tests.freeing.ask_and_free.Goals as goal
 
 pub act_as-requires-clause-nothing_held : goal.act_as-requires-clause-nothing_held

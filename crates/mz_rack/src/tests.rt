@@ -14,6 +14,8 @@ use std::alloc::{AllocError, Global};
 use std::sync::Wait;
 use std::test::Fail;
 
+mod freeing;
+
 const TINY: Place = Place::Tiny { zone: 0, mag: 0 };
 
 const TINY_DEPOT: Place = Place::TinyDepot { zone: 0 };

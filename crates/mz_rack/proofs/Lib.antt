@@ -13,3 +13,4 @@ mod KeeperLemmas
 mod StockLemmas
 mod OpeningLemmas
 mod Asked
+mod TwoZones

@@ -1,8 +1,7 @@
-#![tactic(none)]
-
 ghost use Rattle.std.specs.Prelude.{◌≡◌, ℕ, ◌<◌, ◌≤◌, IfOk};
 ghost use Rattle.std.specs.Int.{IsPowerOfTwo};
 ghost use Rattle.mz_base.specs.Limits.{IsWithinLimits, IsFrom};
+ghost use Rattle.mz_book.specs.Plain.{opening_account};
 ghost use Rattle.mz_rack.specs.Serving.{CanServe};
 
 use crate::{Keeper, Lot, Null, Rack};
@@ -14,6 +13,8 @@ use std::alloc::{AllocError, Global};
 use std::sync::Wait;
 use std::test::Fail;
 
+mod zones;
+
 const TINY: Place = Place::Tiny { zone: 0, mag: 0 };
 
 const TINY_DEPOT: Place = Place::TinyDepot { zone: 0 };
@@ -22,8 +23,18 @@ const SMALL: Place = Place::Small { zone: 0, mag: 0 };
 
 const SMALL_DEPOT: Place = Place::SmallDepot { zone: 0 };
 
-// A book of all keepers of a space without nano, without entries, and the rack of zone 0.
-#[tactic(auto)]
+// A book of all keepers of a space without nano, in which nothing was noted yet.
+fn book_of(alloc: Global, p: &Profile) -> Result<PlainBook<Keeper>, AllocError>
+    requires limits { IsWithinLimits p.now }
+    requires no_nano { p.now.nano ≡ 0 }
+    ensures { IfOk result (λ b. ⟦<PlainBook<Keeper> as Book<Keeper>>⟧.account b ≡ opening_account p.now (⟦<PlainBook<Keeper> as Book<Keeper>>⟧.account b).site) }
+{
+    let span = Space::new(alloc, p.pages)?;
+    let keepers = Keeper::all(alloc, p, span)?;
+    PlainBook::new(alloc, p, keepers)
+}
+
+// Such a book for one zone, and the zone's rack.
 fn setting(
     alloc: Global,
     pages: u64,
@@ -42,16 +53,13 @@ fn setting(
         most_gen: 1,
         zones: 1,
     };
-    let span = Space::new(alloc, pages)?;
-    let keepers = Keeper::all(alloc, &p, span)?;
-    let book = PlainBook::new(alloc, &p, keepers)?;
+    let book = book_of(alloc, &p)?;
     let rack = Rack::new(alloc, &p, 0)?;
     Ok((book, rack))
 }
 
 // Makes room for a request's entries, and asks as the caller. Requests can be made again then, in each zone in which
 // they could be before.
-#[tactic(auto)]
 fn ask<R: Wait>(
     rt: &R,
     rack: &Rack,
@@ -73,7 +81,6 @@ fn ask<R: Wait>(
 }
 
 // The events of the entries from a ticket on.
-#[tactic(auto)]
 fn same_events(history: &[Entry], from: usize, events: &[Event]) -> bool {
     history.len() >= from
         && history.len() - from == events.len()
@@ -83,7 +90,6 @@ fn same_events(history: &[Entry], from: usize, events: &[Event]) -> bool {
             .eq(events.iter().copied())
 }
 
-#[tactic(auto)]
 fn is_send_and_sync<T: Send + Sync>() {}
 
 const FIRST_REQUESTS: [Event; 8] = [
@@ -131,14 +137,12 @@ const FIRST_REQUESTS: [Event; 8] = [
     },
 ];
 
-#[tactic(auto)]
 #[test]
 fn keepers_and_lots_go_from_thread_to_thread() {
     is_send_and_sync::<Keeper>();
     is_send_and_sync::<Lot>();
 }
 
-#[tactic(auto)]
 #[test]
 fn tiny_comes_from_a_fresh_region_and_then_from_the_magazine(rt: HostRuntime) -> Result<(), Fail> {
     let (mut book, rack) = setting(rt.alloc(), 576, 1)?;
@@ -206,7 +210,6 @@ const SMALL_IS_FILLED: [Event; 7] = [
     },
 ];
 
-#[tactic(auto)]
 #[test]
 fn a_small_region_is_filled_to_its_last_quantum(rt: HostRuntime) -> Result<(), Fail> {
     let (mut book, rack) = setting(rt.alloc(), 512, 1)?;
@@ -246,7 +249,6 @@ const TINY_IS_FILLED: [Event; 4] = [
     },
 ];
 
-#[tactic(auto)]
 #[test]
 fn a_tiny_region_is_filled_to_its_last_quantum(rt: HostRuntime) -> Result<(), Fail> {
     let (mut book, rack) = setting(rt.alloc(), 64, 1)?;
@@ -258,5 +260,58 @@ fn a_tiny_region_is_filled_to_its_last_quantum(rt: HostRuntime) -> Result<(), Fa
     let none = ask(&rt, &rack, &mut book, 0, 16, 16)?;
     assert!(rt; rest.is_ok() && none.is_err());
     assert!(rt; same_events(book.history(), 1_043, TINY_IS_FILLED.as_slice()));
+    Ok(())
+}
+
+// What a request for 16 bytes adds that a fresh region serves, which begins at a page.
+fn by_fresh_region(zone: u32, mag: u32, first: u64) -> [Event; 4]
+    requires { first < 384 }
+{
+    let (k, depot) = (Place::Tiny { zone, mag }, Place::TinyDepot { zone });
+    let (n, al) = (16, 16);
+    [
+        Event::Full { k, n, al },
+        Event::Full { k: depot, n, al },
+        Event::Take {
+            k,
+            first,
+            pages: 64,
+        },
+        Event::New {
+            k,
+            a: first * 16_384,
+            s: n,
+            al,
+        },
+    ]
+}
+
+#[test]
+fn each_magazine_of_each_zone_has_its_region(rt: HostRuntime) -> Result<(), Fail> {
+    let (mut book, first, second) = zones::setting(&rt, rt.alloc())?;
+    for mag in 0..3 {
+        let region = 128 * u64::from(mag);
+        let from = book.history().len();
+        let here = ask(&rt, &first, &mut book, mag, 16, 16)?;
+        assert!(rt; here.is_ok());
+        assert!(rt;
+            same_events(
+                book.history(),
+                from,
+                by_fresh_region(0, mag, region).as_slice()
+            )
+        );
+        let from = book.history().len();
+        let there = ask(&rt, &second, &mut book, mag, 16, 16)?;
+        assert!(rt; there.is_ok());
+        assert!(rt;
+            same_events(
+                book.history(),
+                from,
+                by_fresh_region(1, mag, region + 64).as_slice()
+            )
+        );
+    }
+    assert_eq!(rt; book.history().len(), 25);
     Ok(())
 }

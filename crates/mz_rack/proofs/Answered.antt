@@ -29,7 +29,7 @@ use Rattle.mz_rack.specs.declared.way.Way.{Way}
 use Rattle.mz_rack.specs.Lots.{LotView}
 use Rattle.mz_rack.specs.BookLaws.{BookLaws}
 use Rattle.mz_rack.specs.Ways.{IsWayFor, request_of}
-use Rattle.mz_rack.specs.Serving.{keepers_for, block_got, TellsTickets, IsAnswer, Answers}
+use Rattle.mz_rack.specs.Serving.{keepers_for, block_got, is_large_full, TellsTickets, IsAnswer, Answers}
 use Rattle.mz_rack.specs.Stages.{at_large, at_pages, IsDried, IsServed, by_magazine, by_depot, by_fresh_region, null_in_range, IsGot, Served}
 use Rattle.mz_rack.proofs.Undisturbed.{AreIndices, indices_behind, not_below, in_front, own_in, then_alone}
 
@@ -211,7 +211,7 @@ module _ (L : BookLaws) (M : MomentLaws) (s t : Account) (w : Way) (z n al : ℕ
           let x : a ≡ m = cc in
           let y : b ≡ d = cc in
           let u : c ≡ p = cc in
-          ([], ap (λ es. map (λ v. v.ticket) es) e ∙ (ap (λ v. v ∷ b ∷ c ∷ []) x ∙ (ap (λ v. m ∷ v ∷ c ∷ []) y ∙ ap (λ v. m ∷ d ∷ v ∷ []) u)))
+          (ap (λ es. is_large_full (events es)) e ∙ (L.depot s.profile w.magazine way.way.magazine).magazine.not_large, ([], ap (λ es. map (λ v. v.ticket) es) e ∙ (ap (λ v. v ∷ b ∷ c ∷ []) x ∙ (ap (λ v. m ∷ v ∷ c ∷ []) y ∙ ap (λ v. m ∷ d ∷ v ∷ []) u))))
       told (by_magazine x e k g) = absurd (cc)
       told (by_depot x f e k g) = absurd (cc)
       told (by_fresh_region x f e k g) = absurd (cc)

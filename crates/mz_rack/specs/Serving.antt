@@ -37,10 +37,16 @@ abbrev pub block_got : Result LotView Null → Option Block
 block_got (Ok l) = Some (block_at l.span.first (length l.span.bytes))
 block_got (Err e) = None
 
--- the tickets that are told are those of the first entries, which say what was full, and of the last, which says dry
+-- the first entry says that no cached run fits
+abbrev pub is_large_full : List Event → Bool
+is_large_full (Full k n al ∷ es) = is_large k
+is_large_full es = false
+
+-- The tickets that are told are those of the first entries, which say what was full, and of the last, which says dry. Where a null
+-- is one in large, the first is that of the cache.
 abbrev pub TellsTickets : Null → List Entry → Type 0
-TellsTickets (Ranged m d p) es = (between : List ℕ) × (map (λ e. e.ticket) es ≡ m ∷ d ∷ between ++ p ∷ [])
-TellsTickets (Large c p) es = (between : List ℕ) × (map (λ e. e.ticket) es ≡ c ∷ between ++ p ∷ [])
+TellsTickets (Ranged m d p) es = (is_large_full (events es) ≡ false) × ((between : List ℕ) × (map (λ e. e.ticket) es ≡ m ∷ d ∷ between ++ p ∷ []))
+TellsTickets (Large c p) es = IsTrue (is_large_full (events es)) × ((between : List ℕ) × (map (λ e. e.ticket) es ≡ c ∷ between ++ p ∷ []))
 
 -- a lot is of the zone, and its bytes are of the space; where there is none its tickets are told
 abbrev pub IsAnswer : ℕ → Site → List Entry → Result LotView Null → Type 0

@@ -80,6 +80,26 @@ fn ask<R: Wait>(
     Ok(rack.alloc(rt, book, n, al))
 }
 
+// Asks so often as caller 0, and says whether each request was served.
+fn ask_often<R: Wait>(
+    rt: &R,
+    rack: &Rack,
+    book: &mut PlainBook<Keeper>,
+    times: u32,
+    n: u64,
+) -> Result<bool, AllocError>
+    requires can { CanServe (⟦<PlainBook<Keeper> as Book<Keeper>>⟧.account book.old) rack.now.profile rack.now.zone 0 }
+    requires caller { 0 < rack.now.profile.callers }
+    requires small { n ≤ 32768 }
+    ensures { CanServe (⟦<PlainBook<Keeper> as Book<Keeper>>⟧.account book.new) rack.now.profile rack.now.zone 0 }
+{
+    let mut each = true;
+    for _ in 0..times {
+        each &= ask(rt, rack, book, 0, n, 16)?.is_ok();
+    }
+    Ok(each)
+}
+
 // The events of the entries from a ticket on.
 fn same_events(history: &[Entry], from: usize, events: &[Event]) -> bool {
     history.len() >= from
@@ -213,13 +233,9 @@ const SMALL_IS_FILLED: [Event; 7] = [
 #[test]
 fn a_small_region_is_filled_to_its_last_quantum(rt: HostRuntime) -> Result<(), Fail> {
     let (mut book, rack) = setting(rt.alloc(), 512, 1)?;
-    for _ in 0..256 {
-        let got = ask(&rt, &rack, &mut book, 0, 32_768, 16)?;
-        assert!(rt; got.is_ok());
-    }
-    let small = ask(&rt, &rack, &mut book, 0, 1_009, 16)?;
-    let tiny = ask(&rt, &rack, &mut book, 0, 1, 16)?;
-    assert!(rt; small.is_err() && tiny.is_err());
+    assert!(rt; ask_often(&rt, &rack, &mut book, 256, 32_768)?);
+    assert!(rt; !ask_often(&rt, &rack, &mut book, 1, 1_009)?);
+    assert!(rt; !ask_often(&rt, &rack, &mut book, 1, 1)?);
     assert!(rt; same_events(book.history(), 258, SMALL_IS_FILLED.as_slice()));
     Ok(())
 }
@@ -252,13 +268,9 @@ const TINY_IS_FILLED: [Event; 4] = [
 #[test]
 fn a_tiny_region_is_filled_to_its_last_quantum(rt: HostRuntime) -> Result<(), Fail> {
     let (mut book, rack) = setting(rt.alloc(), 64, 1)?;
-    for _ in 0..1_040 {
-        let got = ask(&rt, &rack, &mut book, 0, 1_008, 16)?;
-        assert!(rt; got.is_ok());
-    }
-    let rest = ask(&rt, &rack, &mut book, 0, 256, 16)?;
-    let none = ask(&rt, &rack, &mut book, 0, 16, 16)?;
-    assert!(rt; rest.is_ok() && none.is_err());
+    assert!(rt; ask_often(&rt, &rack, &mut book, 1_040, 1_008)?);
+    assert!(rt; ask_often(&rt, &rack, &mut book, 1, 256)?);
+    assert!(rt; !ask_often(&rt, &rack, &mut book, 1, 16)?);
     assert!(rt; same_events(book.history(), 1_043, TINY_IS_FILLED.as_slice()));
     Ok(())
 }

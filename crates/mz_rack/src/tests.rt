@@ -13,6 +13,7 @@ use std::alloc::{AllocError, Global};
 use std::sync::Wait;
 use std::test::Fail;
 
+mod freeing;
 mod zones;
 
 const TINY: Place = Place::Tiny { zone: 0, mag: 0 };
@@ -23,33 +24,29 @@ const SMALL: Place = Place::Small { zone: 0, mag: 0 };
 
 const SMALL_DEPOT: Place = Place::SmallDepot { zone: 0 };
 
-// A book of all keepers of a space without nano, in which nothing was noted yet.
+// A book of all keepers of the pages below nano's, in which nothing was noted yet.
 fn book_of(alloc: Global, p: &Profile) -> Result<PlainBook<Keeper>, AllocError>
-    requires limits { IsWithinLimits p.now }
-    requires no_nano { p.now.nano ≡ 0 }
+    requires { IsWithinLimits p.now }
     ensures { IfOk result (λ b. ⟦<PlainBook<Keeper> as Book<Keeper>>⟧.account b ≡ opening_account p.now (⟦<PlainBook<Keeper> as Book<Keeper>>⟧.account b).site) }
 {
-    let span = Space::new(alloc, p.pages)?;
+    let span = Space::new(alloc, p.pages - p.nano)?;
     let keepers = Keeper::all(alloc, p, span)?;
     PlainBook::new(alloc, p, keepers)
 }
 
 // Such a book for one zone, and the zone's rack.
-fn setting(
-    alloc: Global,
-    pages: u64,
-    magazines: u32,
-) -> Result<(PlainBook<Keeper>, Rack), AllocError>
+fn setting(alloc: Global, pages: u64, nano: u64) -> Result<(PlainBook<Keeper>, Rack), AllocError>
     requires pages { IsFrom 1 16384 pages }
-    requires magazines { IsFrom 1 16 magazines }
+    requires nano { IsFrom 0 1024 nano }
+    requires within { nano ≤ pages }
     ensures can { IfOk result (λ s. CanServe (⟦<PlainBook<Keeper> as Book<Keeper>>⟧.account s.0) s.1.profile s.1.zone 0) }
     ensures callers { IfOk result (λ s. s.1.profile.callers ≡ 3) }
 {
     let p = Profile {
         pages,
         callers: 3,
-        magazines,
-        nano: 0,
+        magazines: 1,
+        nano,
         most_gen: 1,
         zones: 1,
     };
@@ -110,6 +107,24 @@ fn same_events(history: &[Entry], from: usize, events: &[Event]) -> bool {
             .eq(events.iter().copied())
 }
 
+// What a request for `n` bytes adds that a fresh region of so many pages from page `first` on serves.
+fn by_fresh_region(k: Place, depot: Place, n: u64, first: u64, pages: u64) -> [Event; 4]
+    requires { first < 16384 }
+{
+    let al = 16;
+    [
+        Event::Full { k, n, al },
+        Event::Full { k: depot, n, al },
+        Event::Take { k, first, pages },
+        Event::New {
+            k,
+            a: first * 16_384,
+            s: n,
+            al,
+        },
+    ]
+}
+
 fn is_send_and_sync<T: Send + Sync>() {}
 
 const FIRST_REQUESTS: [Event; 8] = [
@@ -165,7 +180,7 @@ fn keepers_and_lots_go_from_thread_to_thread() {
 
 #[test]
 fn tiny_comes_from_a_fresh_region_and_then_from_the_magazine(rt: HostRuntime) -> Result<(), Fail> {
-    let (mut book, rack) = setting(rt.alloc(), 576, 1)?;
+    let (mut book, rack) = setting(rt.alloc(), 576, 0)?;
     let Ok(a) = ask(&rt, &rack, &mut book, 0, 40, 16)? else {
         return Err(Fail::new("pages are free"));
     };
@@ -232,8 +247,11 @@ const SMALL_IS_FILLED: [Event; 7] = [
 
 #[test]
 fn a_small_region_is_filled_to_its_last_quantum(rt: HostRuntime) -> Result<(), Fail> {
-    let (mut book, rack) = setting(rt.alloc(), 512, 1)?;
-    assert!(rt; ask_often(&rt, &rack, &mut book, 256, 32_768)?);
+    let (mut book, rack) = setting(rt.alloc(), 512, 0)?;
+    assert!(rt; ask_often(&rt, &rack, &mut book, 1, 32_768)?);
+    let first = by_fresh_region(SMALL, SMALL_DEPOT, 32_768, 0, 512);
+    assert!(rt; same_events(book.history(), 0, first.as_slice()));
+    assert!(rt; ask_often(&rt, &rack, &mut book, 255, 32_768)?);
     assert!(rt; !ask_often(&rt, &rack, &mut book, 1, 1_009)?);
     assert!(rt; !ask_often(&rt, &rack, &mut book, 1, 1)?);
     assert!(rt; same_events(book.history(), 258, SMALL_IS_FILLED.as_slice()));
@@ -267,35 +285,12 @@ const TINY_IS_FILLED: [Event; 4] = [
 
 #[test]
 fn a_tiny_region_is_filled_to_its_last_quantum(rt: HostRuntime) -> Result<(), Fail> {
-    let (mut book, rack) = setting(rt.alloc(), 64, 1)?;
+    let (mut book, rack) = setting(rt.alloc(), 64, 0)?;
     assert!(rt; ask_often(&rt, &rack, &mut book, 1_040, 1_008)?);
     assert!(rt; ask_often(&rt, &rack, &mut book, 1, 256)?);
     assert!(rt; !ask_often(&rt, &rack, &mut book, 1, 16)?);
     assert!(rt; same_events(book.history(), 1_043, TINY_IS_FILLED.as_slice()));
     Ok(())
-}
-
-// What a request for 16 bytes adds that a fresh region serves, which begins at a page.
-fn by_fresh_region(zone: u32, mag: u32, first: u64) -> [Event; 4]
-    requires { first < 384 }
-{
-    let (k, depot) = (Place::Tiny { zone, mag }, Place::TinyDepot { zone });
-    let (n, al) = (16, 16);
-    [
-        Event::Full { k, n, al },
-        Event::Full { k: depot, n, al },
-        Event::Take {
-            k,
-            first,
-            pages: 64,
-        },
-        Event::New {
-            k,
-            a: first * 16_384,
-            s: n,
-            al,
-        },
-    ]
 }
 
 #[test]
@@ -306,24 +301,24 @@ fn each_magazine_of_each_zone_has_its_region(rt: HostRuntime) -> Result<(), Fail
         let from = book.history().len();
         let here = ask(&rt, &first, &mut book, mag, 16, 16)?;
         assert!(rt; here.is_ok());
-        assert!(rt;
-            same_events(
-                book.history(),
-                from,
-                by_fresh_region(0, mag, region).as_slice()
-            )
-        );
+        let (k, depot) = (Place::Tiny { zone: 0, mag }, Place::TinyDepot { zone: 0 });
+        let events = by_fresh_region(k, depot, 16, region, 64);
+        assert!(rt; same_events(book.history(), from, events.as_slice()));
         let from = book.history().len();
         let there = ask(&rt, &second, &mut book, mag, 16, 16)?;
         assert!(rt; there.is_ok());
-        assert!(rt;
-            same_events(
-                book.history(),
-                from,
-                by_fresh_region(1, mag, region + 64).as_slice()
-            )
-        );
+        let (k, depot) = (Place::Tiny { zone: 1, mag }, Place::TinyDepot { zone: 1 });
+        let events = by_fresh_region(k, depot, 16, region + 64, 64);
+        assert!(rt; same_events(book.history(), from, events.as_slice()));
     }
     assert_eq!(rt; book.history().len(), 25);
+    Ok(())
+}
+
+#[test]
+fn a_space_of_nano_s_pages_alone_opens(rt: HostRuntime) -> Result<(), Fail> {
+    let (mut book, rack) = setting(rt.alloc(), 2, 2)?;
+    assert!(rt; !ask_often(&rt, &rack, &mut book, 1, 16)?);
+    assert_eq!(rt; book.history().len(), 3);
     Ok(())
 }

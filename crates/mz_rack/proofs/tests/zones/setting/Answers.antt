@@ -2,8 +2,8 @@ use Rattle.std.proofs.Common.{refl}
 use Rattle.mz_rack.proofs.TwoZones.{two_zones_limits, holds_none, can_in}
 use Rattle.mz_rack.proofs.tests.zones.setting.Goals as goal
 
-pub book_of-requires-clause-limits : goal.book_of-requires-clause-limits
-book_of-requires-clause-limits g c = two_zones_limits
+pub book_of-requires : goal.book_of-requires
+book_of-requires g c = two_zones_limits
 
 pub open_zone-requires-clause-holds : goal.open_zone-requires-clause-holds
 open_zone-requires-clause-holds g c = holds_none _ _ _ c.in_ok-book.ensures c.in_ok-reserve.ensures.ok

@@ -1,0 +1,22 @@
+use Rattle.std.proofs.Common.{◌≡◌, ◌+◌, ◌<◌, ◌≤◌, refl, IsTrue, None}
+use Rattle.std.specs.Prelude.{◌==◌}
+use Rattle.std.specs.List.{list_any, list_all}
+use Rattle.mz_base.specs.Space.{block_at, run_at, runs_apart}
+use Rattle.mz_base.specs.Lists.{has_block, blocks_in}
+use Rattle.mz_events.specs.declared.place.Place.TheVariants.{Pages}
+use Rattle.mz_events.specs.Places.{Spot, keeper_at, spot_at, spot_of}
+use Rattle.mz_events.specs.State.{Value, look_up}
+use Rattle.mz_events.specs.Changes.{with_block, without_block, resized, with_run, without_run, with_region, region_at, pages_without, pages_with}
+use Rattle.mz_events.specs.Duties.{duty_of_end}
+use Rattle.mz_events.specs.Leaving.{left_by}
+use Rattle.mz_holding.specs.HeldRuns.{IsRoomBut, run_of_held, live_of_held}
+use Rattle.mz_spots.specs.Keys.{spot_of_key}
+use Rattle.mz_spots.specs.SlotKinds.{IsOfRuns, HasRoomFor, duty_of_region}
+use Rattle.mz_spots.proofs.SlotLemmas.{slot_has, slot_written, slot_is, not_pages}
+use Rattle.mz_spots.proofs.slots.Slots.regain.Goals as goal
+
+pub regain-requires : goal.regain-requires
+regain-requires c = slot_has c.args.self c.in_ok-rest.rest (keeper_at Pages) (keeper_at Pages) c.in_ok-rest.slot refl c.in_ok-rest.ensures.slot (λ (x : Spot × Value). x.0 ≡ keeper_at Pages) refl
+
+pub returns : goal.returns
+returns c = slot_written c.args.self c.in_ok-rest.rest (keeper_at Pages) (keeper_at Pages) c.in_ok-rest.slot refl c.in_ok-rest.ensures.slot c.in_ok-rest.ensures.rest c.regain.new.self (λ (v : Value). left_by c.args.done.caller c.args.done.event (pages_with c.args.q (run_at c.args.first c.args.pages) v.kept) None) c.regain.ensures c.put.result c.put.ensures

@@ -1,0 +1,20 @@
+use Rattle.std.proofs.Common.{◌≡◌, ◌+◌, ◌<◌, ◌∷◌, [], ◌++◌, refl, sym, ap, subst, ◌∙◌, arith, None, Some, Option, get_or, List, length, ℕ, Bool, cond}
+use Rattle.std.specs.BTreeMap.{get, is_at}
+use Rattle.mz_spots.specs.Indexes.{by_numbers, numbers_of}
+use Rattle.mz_base.specs.Lists.{size_sum}
+use Rattle.std.specs.Prelude.{slice_set}
+use Rattle.mz_events.specs.Places.{Spot}
+use Rattle.mz_events.specs.State.{Value, blank, look_up, write, live_size}
+use Rattle.mz_spots.specs.Keys.{spot_of_key}
+use Rattle.mz_spots.specs.Indexes.{place_in, IsIndex}
+use Rattle.mz_spots.proofs.IndexLemmas.{place_none, place_some, found_none, slot_placed, index_more, index_set, written_again, size_set, size_more}
+use Rattle.mz_spots.proofs.SlotLemmas.{slot_made}
+use Rattle.mz_spots.proofs.slots.Slots.seat.Goals as goal
+
+pub returns-in-Some : goal.returns-in-Some
+returns-in-Some c = slot_placed (spot_of_key c.args.key) c.args.self c.in-Some.i (sym c.in-Some.ensures)
+
+pub returns-in_ok-slots-in-None : goal.returns-in_ok-slots-in-None
+returns-in_ok-slots-in-None c =
+    let j = spot_of_key c.args.key in
+    slot_made j c.args.self c.in_ok-slots-in-None.slots (length c.list-i.result.now) (ap length c.list-i.ensures) c.in_ok-slots-in-None.ensures (place_none j c.args.self (sym c.place_of.ensures ∙ c.in-None.is))

@@ -19,7 +19,7 @@ invariant_of-result c =
     let s = state_with i.slots i.zones.items i.entries i.greatest in (
       books_after c.when_an_event_fits.ensures c.lawful_entries_split.ensures.joined c.lawful_entries_split.ensures.one c.states_split.ensures.joined c.states_split.ensures.one i.profile s c.args.caller c.args.e.now _ _ _ _ c.self.invariant.0
           (subst (λ (b : Booked). first_broken b.profile b.state c.args.caller c.args.e.now ≡ None) (sym c.self.view_is) c.requires)
-          (c.in_ok-slots.ensures s refl) c.in_ok-change_zones.ensures c.in_ok-count.ensures (c.max.ensures ∙ ap (max i.greatest) c.used.ensures),
+          (c.in_ok-slots.ensures s refl) c.in_ok-change_zones.ensures c.in_ok-count.ensures (c.max.ensures ∙ ap (max i.greatest) c.used-used.ensures),
       c.self.invariant.1,
       c.self.invariant.2,
       c.self.invariant.3,
@@ -30,4 +30,4 @@ returns c =
     let i = c.self.inside in
     let s = state_with i.slots i.zones.items i.entries i.greatest in
     view_after i.profile s c.args.caller c.args.e.now _ _ _ _ c.args.self c.self.view_is
-    (c.in_ok-slots.ensures s refl) c.in_ok-change_zones.ensures c.in_ok-count.ensures (c.max.ensures ∙ ap (max i.greatest) c.used.ensures)
+    (c.in_ok-slots.ensures s refl) c.in_ok-change_zones.ensures c.in_ok-count.ensures (c.max.ensures ∙ ap (max i.greatest) c.used-used.ensures)

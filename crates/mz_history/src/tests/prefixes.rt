@@ -25,6 +25,7 @@ struct Draws {
 }
 
 impl Draws {
+    #[tactic(auto)]
     fn below(&mut self, n: u32) -> u32 {
         self.x = self.x.wrapping_mul(1_664_525).wrapping_add(1_013_904_223);
         let drawn = self.x >> 12;
@@ -197,6 +198,7 @@ const PLACES: [Place; 11] = [
 ];
 
 // Whether a state answers as another.
+#[tactic(auto)]
 fn is_same(s: &State, t: &State) -> bool {
     for k in PLACES {
         if s.last_freed(k) != t.last_freed(k) || s.owes(k) != t.owes(k) {
@@ -214,6 +216,7 @@ fn is_same(s: &State, t: &State) -> bool {
 }
 
 // Whether a duty stands somewhere.
+#[tactic(auto)]
 fn owes_some(s: &State) -> bool {
     for k in PLACES {
         if s.owes(k).is_some() {

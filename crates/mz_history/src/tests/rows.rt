@@ -120,6 +120,7 @@ struct Left {
     freed: Option<(u64, u64)>,
 }
 
+#[tactic(auto)]
 fn read_left(alloc: Global, list: &[Entry]) -> Result<Left, AllocError> {
     let mut left = Left {
         runs: Vec::new(alloc),

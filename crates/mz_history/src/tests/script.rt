@@ -15,6 +15,7 @@ struct Line<'a> {
 }
 
 // The number behind a letter.
+#[tactic(auto)]
 fn number_behind(letter: &str, word: &str) -> Option<u64> {
     match word.strip_prefix(letter)?.parse::<u64>() {
         Ok(n) => Some(n),
@@ -22,6 +23,7 @@ fn number_behind(letter: &str, word: &str) -> Option<u64> {
     }
 }
 
+#[tactic(auto)]
 fn place_of(word: &str) -> Option<Place> {
     if word == "n" {
         return Some(Place::Nano);
@@ -82,10 +84,12 @@ impl<'a> Line<'a> {
         Ok(())
     }
 
+    #[tactic(auto)]
     fn number(&self, i: usize) -> u64 {
         self.numbers.get(i).copied().unwrap_or(0)
     }
 
+    #[tactic(auto)]
     fn place(&self, i: usize) -> Place {
         self.places.get(i).copied().unwrap_or(Place::Nano)
     }

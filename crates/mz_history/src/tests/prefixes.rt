@@ -32,6 +32,7 @@ impl Draws {
         if n == 0 { 0 } else { drawn % n }
     }
 
+    #[tactic(auto)]
     fn pick(&mut self, from: &[u64]) -> u64 {
         let i = self.below(from.len().min(64) as u32) as usize;
         if i < from.len() { from[i] } else { 0 }
@@ -108,6 +109,7 @@ impl Draws {
     }
 
     // Some live block.
+    #[tactic(auto)]
     fn block(&mut self, s: &State) -> Option<(Place, u64, u64)> {
         let live = s.live();
         let i = self.below(live.len().min(1_000) as u32) as usize;
@@ -119,6 +121,7 @@ impl Draws {
     }
 
     // Some run.
+    #[tactic(auto)]
     fn run(&mut self, s: &State) -> Option<(Place, u64, u64)> {
         let runs = s.runs();
         let i = self.below(runs.len().min(1_000) as u32) as usize;
@@ -257,6 +260,7 @@ impl Steps {
     }
 
     // Whether an audit of the entries answers what the last step did.
+    #[tactic(auto)]
     fn is_audited(
         &self,
         alloc: Global,

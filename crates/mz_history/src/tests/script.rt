@@ -46,6 +46,7 @@ fn place_of(word: &str) -> Option<Place> {
 }
 
 impl<'a> Line<'a> {
+    #[tactic(auto)]
     fn read(alloc: Global, text: &'a str) -> Result<Line<'a>, AllocError> {
         let mut line = Line {
             verb: "",
@@ -176,6 +177,7 @@ impl<'a> Line<'a> {
 }
 
 // Appends the entries of these lines.
+#[tactic(auto)]
 pub fn write(alloc: Global, list: &mut Vec<Entry>, text: &str) -> Result<(), AllocError> {
     for words in text.lines() {
         let line = Line::read(alloc, words)?;

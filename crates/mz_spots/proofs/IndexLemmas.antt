@@ -1,6 +1,6 @@
 -- The index of a list of slots.
 use Rattle.std.proofs.Common.{◌≡◌, ℕ, ◌+◌, ◌-◌, ◌<◌, ◌≤◌, Bool, true, false, cond, List, [], ◌∷◌, ◌++◌, length, take, get_or, suc, zero, refl, sym, ap, ◌∙◌, subst, inl, inr, arith, add-one, Option, Some, None}
-use Rattle.std.specs.Prelude.{slice_set, ◌==◌, sum_by, find}
+use Rattle.std.specs.Prelude.{slice_set, ◌==◌}
 use Rattle.std.specs.Option.{option_map}
 use Rattle.std.specs.Ordering.{nat_cmp, ordering_then, is_eq, ordering_reverse}
 use Rattle.std.specs.declared.cmp.Ordering.{Ordering}
@@ -12,13 +12,13 @@ use Rattle.std.proofs.lemmas.Map.Lookups.{CmpEqualImpliesEq, exact_pairs, exact_
 use Rattle.std.proofs.lemmas.List.Sums.{sum_by-set, sum_by_push}
 use Rattle.mz_events.specs.declared.place.Place.TheVariants.{Pages, Tiny, TinyDepot, Small, SmallDepot, Large, Nano}
 use Rattle.mz_events.specs.Places.{Spot, same_spot, keeper_at, nano_page}
-use Rattle.mz_events.specs.State.{Value, blank, live_size, look_up, write}
+use Rattle.mz_events.specs.State.{Value, blank, live_size, write}
 use Rattle.mz_events.specs.Sameness.{has_spot}
 use Rattle.mz_base.specs.Lists.{size_sum}
 use Rattle.mz_spots.specs.SlotLists.{found_at, IsSlotFor}
 use Rattle.mz_spots.specs.Indexes.{numbers_of, by_numbers, place_in, IsIndex}
 use Rattle.mz_spots.proofs.SpotLemmas.{same_spot-true, same_spot-refl, cond_swap}
-use Rattle.mz_spots.proofs.SlotLemmas.{slot_found, slot_made}
+use Rattle.mz_spots.proofs.SlotLemmas.{slot_found}
 
 -- ---- spots and their numbers
 

@@ -1,12 +1,9 @@
-use Rattle.std.proofs.Common.{◌≡◌, ◌+◌, ◌<◌, ◌∷◌, [], ◌++◌, refl, sym, ap, subst, ◌∙◌, arith, None, Some, Option, get_or, List, length}
+use Rattle.std.proofs.Common.{sym, ap, ◌∙◌, Some}
 use Rattle.std.specs.Option.{option_map}
-use Rattle.std.specs.Prelude.{slice_set}
 use Rattle.mz_events.specs.Places.{Spot}
-use Rattle.mz_events.specs.State.{Value, blank, look_up, write, live_size}
+use Rattle.mz_events.specs.State.{Value, blank}
 use Rattle.mz_spots.specs.Keys.{spot_of_key}
-use Rattle.mz_spots.specs.Indexes.{place_in, IsIndex}
-use Rattle.mz_spots.proofs.IndexLemmas.{place_none, place_some, found_none, slot_placed, index_more, index_set, written_again}
-use Rattle.mz_spots.proofs.SlotLemmas.{slot_made}
+use Rattle.mz_spots.proofs.IndexLemmas.{place_some, found_none}
 use Rattle.mz_spots.proofs.slots.Slots.find.Goals as goal
 
 pub returns-in_err-i : goal.returns-in_err-i

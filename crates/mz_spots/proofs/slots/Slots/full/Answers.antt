@@ -1,18 +1,10 @@
-use Rattle.std.proofs.Common.{◌≡◌, ◌+◌, ◌<◌, ◌≤◌, refl, IsTrue, None}
-use Rattle.std.specs.Prelude.{◌==◌}
-use Rattle.std.specs.List.{list_any, list_all}
-use Rattle.mz_base.specs.Space.{block_at, run_at, runs_apart}
-use Rattle.mz_base.specs.Lists.{has_block, blocks_in}
-use Rattle.mz_events.specs.declared.place.Place.TheVariants.{Pages}
-use Rattle.mz_events.specs.Places.{Spot, keeper_at, spot_at, spot_of}
-use Rattle.mz_events.specs.State.{Value, look_up}
-use Rattle.mz_events.specs.Changes.{with_block, without_block, resized, with_run, without_run, with_region, region_at, pages_without, pages_with}
-use Rattle.mz_events.specs.Duties.{duty_of_end}
+use Rattle.std.proofs.Common.{None}
+use Rattle.mz_events.specs.Places.{Spot, spot_of}
+use Rattle.mz_events.specs.State.{Value}
 use Rattle.mz_events.specs.Leaving.{left_by}
-use Rattle.mz_holding.specs.HeldRuns.{IsRoomBut, run_of_held, live_of_held}
 use Rattle.mz_spots.specs.Keys.{spot_of_key}
-use Rattle.mz_spots.specs.SlotKinds.{IsOfRuns, HasRoomFor, duty_of_region}
-use Rattle.mz_spots.proofs.SlotLemmas.{slot_has, slot_written, slot_is, not_pages}
+use Rattle.mz_spots.specs.SlotKinds.{IsOfRuns}
+use Rattle.mz_spots.proofs.SlotLemmas.{slot_has, slot_written}
 use Rattle.mz_spots.proofs.slots.Slots.full.Goals as goal
 
 pub full-requires-clause-kind : goal.full-requires-clause-kind

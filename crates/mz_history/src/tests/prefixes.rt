@@ -282,6 +282,7 @@ impl Steps {
     }
 }
 
+#[tactic(auto)]
 #[test]
 fn steps_are_audits(rt: HostRuntime) -> Result<(), Fail> {
     let p = small_space();

@@ -148,6 +148,7 @@ fn owes_nothing(s: &State) -> bool {
         && s.owes(Place::Pages).is_none()
 }
 
+#[tactic(auto)]
 #[test]
 fn rows_leave_their_states(rt: HostRuntime) -> Result<(), Fail> {
     for row in ROWS {

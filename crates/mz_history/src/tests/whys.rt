@@ -37,6 +37,7 @@ fn breach(alloc: Global, list: &[Entry]) -> Result<Option<(u64, u8)>, AllocError
     }
 }
 
+#[tactic(auto)]
 #[test]
 fn each_why_has_a_list(rt: HostRuntime) -> Result<(), Fail> {
     for (text, more, ticket, why) in TABLE {
@@ -47,6 +48,7 @@ fn each_why_has_a_list(rt: HostRuntime) -> Result<(), Fail> {
     Ok(())
 }
 
+#[tactic(auto)]
 #[test]
 fn entries_may_come_in_any_order(rt: HostRuntime) -> Result<(), Fail> {
     for (text, more, ticket, why) in TABLE {

@@ -1,5 +1,4 @@
 use Rattle.std.proofs.Common.{◌≡◌, refl, sym, subst, ap, ◌∙◌, None, max}
-use Rattle.mz_events.specs.State.{live_size}
 use Rattle.mz_events.specs.Rules.{first_broken}
 use Rattle.mz_history.specs.Booked.{Booked}
 use Rattle.mz_history.specs.BookedStates.{state_with}

@@ -1,8 +1,6 @@
-use Rattle.std.proofs.Common.{sym, ap, ◌∙◌, List}
-use Rattle.mz_events.specs.Places.{Spot}
+use Rattle.std.proofs.Common.{sym, ap, ◌∙◌}
 use Rattle.mz_events.specs.State.{Value, look_up}
 use Rattle.mz_history.specs.Booked.{Booked}
-use Rattle.mz_spots.specs.SlotLists.{found_at}
 use Rattle.mz_history.proofs.BookLemmas.{value_found, spot_found, none_found}
 use Rattle.mz_events.specs.Places.{keeper_at}
 use Rattle.mz_events.specs.declared.place.Place.TheVariants.{Pages}

@@ -1,5 +1,5 @@
 -- Listed blocks are sentences, and entries are a ticket and an event.
-use Rattle.std.proofs.Common.{◌≡◌, ℕ, ◌≤◌, ◌+◌, true, List, [], ◌∷◌, length, arith, refl, sym, ap, ◌∙◌, subst, lit<, Option, Some}
+use Rattle.std.proofs.Common.{◌≡◌, ℕ, ◌≤◌, true, List, [], ◌∷◌, length, arith, refl, sym, ap, ◌∙◌, subst, lit<, Option, Some}
 use Rattle.std.specs.Fmt.{decimal}
 use Rattle.std.proofs.lemmas.Bool.{and_parts, and_from}
 use Rattle.mz_words.specs.declared.kind.Word.{Word}

@@ -1,0 +1,34 @@
+-- How often a block is among some, and how lists of named lots change. This project's own.
+use Rattle.std.specs.Prelude.{ℕ, ◌+◌, ◌≡◌, List, length, filter, Option, None, Some, Result, Ok, Err, if◌then◌else◌}
+use Rattle.std.specs.Str.{bytes_eq}
+use Rattle.mz_base.specs.Space.{Block, same_block}
+use Rattle.mz_events.specs.Changes.{one_for}
+use Rattle.mz_trace.specs.declared.answer.Answer.{Answer}
+use Rattle.mz_trace.specs.declared.answer.Answer.TheVariants as answers
+use Rattle.mz_rack.specs.declared.lot.Null.{Null}
+use Rattle.mz_rack.specs.Lots.{LotView}
+use Rattle.mz_session.specs.Names.{NamedLots, block_of, blocks_named, lot_named}
+
+-- how often the block is one of these
+abbrev pub count_of : Block → List Block → ℕ
+count_of b bs = length (filter (same_block b) bs)
+
+-- and how often it is that of a lot
+abbrev pub count_in : Block → Option LotView → ℕ
+count_in b None = 0
+count_in b (Some l) = one_for (same_block b (block_of l))
+
+-- the lots are the others, but that this name has this one, or none
+pub record AreWith (old : NamedLots) (name : List ℕ) (got : Option LotView) (new : NamedLots) : Type 0 where
+  pub named : (word : List ℕ) → lot_named new word ≡ (if bytes_eq word name then got else lot_named old word)
+  pub counted : (b : Block) → count_of b (blocks_named new) + count_in b (lot_named old name) ≡ count_of b (blocks_named old) + count_in b got
+
+-- the lot that came, or none
+abbrev pub lot_got : Result LotView Null → Option LotView
+lot_got (Ok l) = Some l
+lot_got (Err e) = None
+
+-- how a request is answered
+abbrev pub answer_to : Option LotView → Answer
+answer_to None = answers.Null
+answer_to (Some l) = answers.Block (block_of l).first (block_of l).size

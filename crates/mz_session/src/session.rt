@@ -1,0 +1,179 @@
+//! One caller's session.
+
+ghost use Rattle.std.specs.Prelude.{◌≡◌, ◌≤◌, [], IfOk, OnErr};
+ghost use Rattle.mz_base.specs.Limits.{IsWithinLimits};
+ghost use Rattle.mz_trace.specs.declared.command.Command.TheVariants as command;
+ghost use Rattle.mz_session.specs.Kept.{IsForOne};
+ghost use Rattle.mz_session.specs.Sessions.{Serves};
+
+use crate::listing::sort;
+use crate::lots::Lots;
+use crate::statistics::statistics;
+use mz_base::{Items, Profile, ZoneName};
+use mz_book::PlainBook;
+use mz_events::Entry;
+use mz_ground::Space;
+use mz_rack::{Keeper, Rack};
+use mz_trace::{Answer, Figures};
+use mz_words::{BaseName, BlockName, Name, ShowCount, Shown};
+use std::alloc::{AllocError, Global};
+use std::marker::Model;
+use std::sync::Wait;
+
+// The most entries that one command adds.
+const MOST_ENTRIES: u64 = 36;
+
+/// The session of the one caller of a space: what serves it, and what it holds. Contracts see the profile, all entries so far,
+/// and the names that are held, each with its lot.
+#[derive(Drop)]
+pub struct Session {
+    rack: Rack,
+    book: PlainBook<Keeper>,
+    lots: Lots,
+}
+
+impl Model for Session {
+    ghost use Rattle.mz_session.specs.Sessions.{SessionView};
+
+    ghost Value = { SessionView };
+
+    ghost use Rattle.mz_session.specs.Kept.{IsKept};
+
+    ghost view = { λ s. record {
+        profile = (⟦<PlainBook<Keeper> as Book<Keeper>>⟧.account s.book).profile;
+        seen = (⟦<PlainBook<Keeper> as Book<Keeper>>⟧.account s.book).seen;
+        lots = s.lots;
+    } };
+
+    ghost invariant = { λ s. IsKept s.rack (⟦<PlainBook<Keeper> as Book<Keeper>>⟧.account s.book) s.lots };
+}
+
+impl Session {
+    /// The session before the first command, in a space of its own. All memory of the space is taken here.
+    pub fn open(alloc: Global, p: &Profile) -> Result<Session, AllocError>
+        requires limits { IsWithinLimits p.now }
+        requires for_one { IsForOne p.now }
+        ensures { IfOk result (λ s. s ≡ record { profile = p.now; seen = []; lots = [] }) }
+    {
+        let span = Space::new(alloc, p.pages)?;
+        let keepers = Keeper::all(alloc, p, span)?;
+        let book = PlainBook::new(alloc, p, keepers)?;
+        let rack = Rack::new(alloc, p, 0)?;
+        Ok(Session {
+            rack,
+            book,
+            lots: Lots::new(alloc),
+        })
+    }
+
+    /// All entries so far, by ticket.
+    pub fn history(&self) -> &[Entry]
+        ensures { result.now ≡ self.now.seen }
+    {
+        self.book.history()
+    }
+
+    /// Serves a request for a block of `n` bytes that is to have the name.
+    pub fn malloc<R: Wait>(
+        &mut self,
+        rt: &R,
+        name: BaseName,
+        n: u64,
+    ) -> Result<Answer, AllocError>
+        requires { n ≤ 32768 }
+        ensures ok { IfOk result (λ answer. Serves self.old (command.Malloc name n) answer self.new) }
+        ensures err { OnErr result (self.new ≡ self.old) }
+    {
+        if self.lots.get(&name).is_some() {
+            return Ok(Answer::Held);
+        }
+        self.book.reserve(MOST_ENTRIES)?;
+        self.lots.ask(rt, &self.rack, &mut self.book, name, n)
+    }
+
+    /// Ends the block that has the name.
+    pub fn free<R: Wait>(&mut self, rt: &R, name: BlockName) -> Result<Answer, AllocError>
+        ensures ok { IfOk result (λ answer. Serves self.old (command.Free name) answer self.new) }
+        ensures err { OnErr result (self.new ≡ self.old) }
+    {
+        let Name::Base(base) = name.get() else {
+            return Ok(Answer::NotHeld);
+        };
+        self.book.reserve(MOST_ENTRIES)?;
+        let Some(lot) = self.lots.remove(&base) else {
+            return Ok(Answer::NotHeld);
+        };
+        match self.rack.free(rt, &mut self.book, lot) {
+            Ok(()) => Ok(Answer::Done),
+            Err(_not_live) => unreachable!(),
+        }
+    }
+
+    /// Makes all bytes of the block `byte`.
+    pub fn fill(&mut self, name: BlockName, byte: u8) -> Answer
+        ensures { Serves self.old (command.Fill name byte) result self.new }
+    {
+        let Name::Base(base) = name.get() else {
+            return Answer::NotHeld;
+        };
+        if self.lots.fill(&base, byte) {
+            Answer::Done
+        } else {
+            Answer::NotHeld
+        }
+    }
+
+    /// Shows `count` bytes of the block from `off` on.
+    pub fn show(&self, name: BlockName, off: u64, count: ShowCount) -> Answer
+        ensures { Serves self.now (command.Show name off count) result self.now }
+    {
+        let Name::Base(base) = name.get() else {
+            return Answer::NotHeld;
+        };
+        let Some(lot) = self.lots.get(&base) else {
+            return Answer::NotHeld;
+        };
+        match bytes_at(lot.bytes(), off, count.number()) {
+            Some(shown) => Answer::Bytes { shown },
+            None => Answer::OutOfRange,
+        }
+    }
+
+    /// Writes the address of the block `target` into the block at `off`, least byte first.
+    pub fn link(&mut self, name: BlockName, off: u64, target: BlockName) -> Answer
+        ensures { Serves self.old (command.Link name off target) result self.new }
+    {
+        let (Name::Base(base), Name::Base(target)) = (name.get(), target.get()) else {
+            return Answer::NotHeld;
+        };
+        let (Some(lot), Some(target)) = (self.lots.get(&base), self.lots.get(&target)) else {
+            return Answer::NotHeld;
+        };
+        if off > lot.size() || lot.size() - off < 8 {
+            return Answer::OutOfRange;
+        }
+        let first = target.first().to_le_bytes();
+        self.lots.write(&base, off, &first);
+        Answer::Done
+    }
+
+    /// What stands behind the run so far.
+    pub fn tail(&self, alloc: Global) -> Result<Figures, AllocError> {
+        let zone = ZoneName::new(b"default").unwrap();
+        let mut listing = self.lots.listing(alloc, zone)?;
+        sort(&mut listing);
+        Ok(Figures {
+            listing: Items::of(listing),
+            statistics: statistics(self.book.history()),
+        })
+    }
+}
+
+// So many bytes from `off` on, where there are so many.
+fn bytes_at(bytes: &[u8], off: u64, count: u64) -> Option<Shown> {
+    let len = bytes.len() as u64;
+    if off > len || len - off < count {
+        return None;
+    }
+    Shown::new(&bytes[off as usize..(off + count) as usize])
+}

@@ -3,6 +3,8 @@ use Rattle.std.specs.Prelude.{ℕ, ◌+◌, ◌≡◌, List, length, filter, Opt
 use Rattle.std.specs.Str.{bytes_eq}
 use Rattle.mz_base.specs.Space.{Block, same_block}
 use Rattle.mz_events.specs.Changes.{one_for}
+use Rattle.mz_events.specs.State.{State}
+use Rattle.mz_book.specs.Account.{is_live}
 use Rattle.mz_trace.specs.declared.answer.Answer.{Answer}
 use Rattle.mz_trace.specs.declared.answer.Answer.TheVariants as answers
 use Rattle.mz_rack.specs.declared.lot.Null.{Null}
@@ -32,3 +34,7 @@ lot_got (Err e) = None
 abbrev pub answer_to : Option LotView → Answer
 answer_to None = answers.Null
 answer_to (Some l) = answers.Block (block_of l).first (block_of l).size
+
+-- these are just the live blocks of the state, each once
+abbrev pub AreLive : List Block → State → Type 0
+AreLive bs s = (b : Block) → count_of b bs ≡ one_for (is_live s b)

@@ -20,6 +20,7 @@
 //! answer, and the bytes that it shows (`mz_fit` says which these are).
 #![tactic(auto)]
 
+mod block;
 mod listing;
 mod lots;
 mod session;

@@ -5,15 +5,14 @@ ghost use Rattle.std.specs.Option.{option_copied, option_map};
 ghost use Rattle.mz_book.specs.Account.{Account};
 ghost use Rattle.mz_rack.specs.Lots.{with_lot_bytes};
 ghost use Rattle.mz_rack.specs.Serving.{CanServe};
-ghost use Rattle.mz_session.specs.Names.{lot_named};
+ghost use Rattle.mz_session.specs.Names.{lot_named, blocks_named};
 ghost use Rattle.mz_session.specs.Counts.{AreWith};
 ghost use Rattle.mz_session.specs.Kept.{IsAsked};
 
-use crate::listing::listed;
-use mz_base::ZoneName;
-use mz_book::PlainBook;
+use crate::block::Block;
+use mz_book::{Book, PlainBook};
 use mz_rack::{Keeper, Lot, Rack};
-use mz_trace::{Answer, Listed};
+use mz_trace::Answer;
 use mz_words::BaseName;
 use std::alloc::{AllocError, Global};
 use std::collections::BTreeMap;
@@ -55,9 +54,14 @@ impl Lots {
         self.map.get(name)
     }
 
-    /// All lots as they are listed, in the order of their names.
-    pub(crate) fn listing(&self, alloc: Global, zone: ZoneName) -> Result<Vec<Listed>, AllocError> {
-        self.map.values().map(|lot| listed(lot, zone)).collect(alloc)
+    /// The blocks of all lots, in the order of their names.
+    pub(crate) fn blocks(&self, alloc: Global) -> Result<Vec<Block>, AllocError>
+        ensures { IfOk result (λ v. v.items ≡ blocks_named self.now) }
+    {
+        self.map
+            .values()
+            .map(|lot| Block::new(lot.first(), lot.size()))
+            .collect(alloc)
     }
 
     /// The name has no lot from now on.

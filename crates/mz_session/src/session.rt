@@ -6,11 +6,11 @@ ghost use Rattle.mz_trace.specs.declared.command.Command.TheVariants as command;
 ghost use Rattle.mz_session.specs.Kept.{IsForOne};
 ghost use Rattle.mz_session.specs.Sessions.{Serves};
 
-use crate::listing::sort;
+use crate::listing::listing;
 use crate::lots::Lots;
 use crate::statistics::statistics;
-use mz_base::{Items, Profile, ZoneName};
-use mz_book::PlainBook;
+use mz_base::{Items, Profile};
+use mz_book::{Book, PlainBook};
 use mz_events::Entry;
 use mz_ground::Space;
 use mz_rack::{Keeper, Rack};
@@ -159,9 +159,8 @@ impl Session {
 
     /// What stands behind the run so far.
     pub fn tail(&self, alloc: Global) -> Result<Figures, AllocError> {
-        let zone = ZoneName::new(b"default").unwrap();
-        let mut listing = self.lots.listing(alloc, zone)?;
-        sort(&mut listing);
+        let blocks = self.lots.blocks(alloc)?;
+        let listing = listing(alloc, &blocks)?;
         Ok(Figures {
             listing: Items::of(listing),
             statistics: statistics(self.book.history()),

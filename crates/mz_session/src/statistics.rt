@@ -38,9 +38,9 @@ fn add(statistics: &mut Statistics, event: Event) {
             statistics.blocks_in_use -= 1;
             statistics.size_in_use -= s;
         }
-        Event::Size { s, t, .. } => {
+        Event::Size { s, s2, .. } => {
             statistics.size_in_use -= s;
-            statistics.size_in_use += t;
+            statistics.size_in_use += s2;
         }
         Event::Take { pages, .. } => statistics.size_allocated += pages * PAGE,
         Event::Back { pages, .. } => statistics.size_allocated -= pages * PAGE,

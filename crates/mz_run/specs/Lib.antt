@@ -1,7 +1,5 @@
 pub mod Built
-pub mod NamesMap
-pub mod Blocks
-pub mod Session
+pub mod Turns
 pub mod Passing
 pub mod Jobs
 pub mod Top

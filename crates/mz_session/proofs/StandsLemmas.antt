@@ -6,7 +6,6 @@ use Rattle.std.specs.Str.{bytes_eq}
 use Rattle.std.proofs.lemmas.Bool.{cases_Bool}
 use Rattle.std.proofs.lemmas.Option.{none-some}
 use Rattle.std.proofs.lemmas.Slice.Eq.{bytes_eq-Decides}
-use Rattle.std.proofs.Math.Option.{some-injective}
 use Rattle.mz_base.specs.Space.{Block, same_block}
 use Rattle.mz_words.specs.declared.name.Name.{Name}
 use Rattle.mz_words.specs.declared.name.Name.TheVariants.{Base, Batch, Given}
@@ -18,6 +17,7 @@ use Rattle.mz_rack.specs.Lots.{LotView, with_lot_bytes}
 use Rattle.mz_session.specs.Names.{NamedLots, block_of, lot_named, block_named}
 use Rattle.mz_session.specs.Counts.{AreWith, written}
 use Rattle.mz_session.specs.Sessions.{SessionView, StandsFor}
+use Rattle.mz_session.proofs.CountLemmas.{some-is}
 use Rattle.mz_session.proofs.HeldLemmas.{held-first, held-forgotten, given-names, forgotten-names, kept-names}
 use Rattle.mz_session.proofs.KnownLemmas.{known-now, known-others, known-forgotten}
 
@@ -49,7 +49,7 @@ module _ (s t : SessionView) (v : Standing) (stands : StandsFor s v) where
 
   -- a name's lot among those where one name got this lot: that one, or one of before
   lot-now : (word w : List ℕ) (l m : LotView) → AreWith s.lots word (Some l) t.lots → lot_named t.lots w ≡ Some m → bytes_eq w word ≡ true → l ≡ m
-  lot-now word w l m with_it named same = some-injective l m (sym (ap (λ d. cond d (Some l) (lot_named s.lots w)) same) ∙ sym (with_it.named w) ∙ named)
+  lot-now word w l m with_it named same = some-is l m (sym (ap (λ d. cond d (Some l) (lot_named s.lots w)) same) ∙ sym (with_it.named w) ∙ named)
 
   lot-before : (word w : List ℕ) (got : Option LotView) (m : LotView) → AreWith s.lots word got t.lots → lot_named t.lots w ≡ Some m → bytes_eq w word ≡ false → lot_named s.lots w ≡ Some m
   lot-before word w got m with_it named other = sym (ap (λ d. cond d got (lot_named s.lots w)) other) ∙ sym (with_it.named w) ∙ named

@@ -1,13 +1,10 @@
 -- How often a block is among some, and how lists of named lots change. This project's own.
-use Rattle.std.specs.Prelude.{ℕ, ◌+◌, ◌≡◌, List, ◌++◌, length, filter, take, drop, Option, None, Some, Result, Ok, Err, if◌then◌else◌}
+use Rattle.std.specs.Prelude.{ℕ, ◌+◌, ◌≡◌, List, ◌++◌, length, filter, take, drop, Option, None, Some, if◌then◌else◌}
 use Rattle.std.specs.Str.{bytes_eq}
 use Rattle.mz_base.specs.Space.{Block, same_block}
 use Rattle.mz_events.specs.Changes.{one_for}
 use Rattle.mz_events.specs.State.{State}
 use Rattle.mz_book.specs.Account.{is_live}
-use Rattle.mz_trace.specs.declared.answer.Answer.{Answer}
-use Rattle.mz_trace.specs.declared.answer.Answer.TheVariants as answers
-use Rattle.mz_rack.specs.declared.lot.Null.{Null}
 use Rattle.mz_rack.specs.Lots.{LotView}
 use Rattle.mz_session.specs.Names.{NamedLots, block_of, blocks_named, lot_named}
 
@@ -28,16 +25,6 @@ pub record AreWith (old : NamedLots) (name : List ℕ) (got : Option LotView) (n
 -- the bytes with these written over them from off on
 abbrev pub written : ℕ → List ℕ → List ℕ → List ℕ
 written off ws bs = take off bs ++ ws ++ drop (off + length ws) bs
-
--- the lot that came, or none
-abbrev pub lot_got : Result LotView Null → Option LotView
-lot_got (Ok l) = Some l
-lot_got (Err e) = None
-
--- how a request is answered
-abbrev pub answer_to : Option LotView → Answer
-answer_to None = answers.Null
-answer_to (Some l) = answers.Block (block_of l).first (block_of l).size
 
 -- these are just the live blocks of the state, each once
 abbrev pub AreLive : List Block → State → Type 0

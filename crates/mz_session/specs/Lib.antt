@@ -1,4 +1,4 @@
 pub mod Names
 pub mod Counts
-pub mod Kept
 pub mod Sessions
+pub mod SessionLaws

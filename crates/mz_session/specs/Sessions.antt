@@ -1,7 +1,10 @@
 -- What contracts see of a session, the standing for which it stands, and when it serves a command. This project's own.
-use Rattle.std.specs.Prelude.{ℕ, ◌≡◌, true, List, [], ◌∷◌, ◌++◌, Option, Some, IsTrue}
+use Rattle.std.specs.Prelude.{ℕ, ◌≡◌, ◌≤◌, true, List, [], ◌∷◌, ◌++◌, length, Some, IsTrue}
 use Rattle.std.specs.List.{AllByRecursion}
 use Rattle.mz_base.specs.declared.profile.Profile.{Profile}
+use Rattle.mz_base.specs.Site.{Site}
+use Rattle.mz_base.specs.Space.{Block}
+use Rattle.mz_events.specs.State.{is_open}
 use Rattle.mz_events.specs.declared.entry.Entry.{Entry}
 use Rattle.mz_words.specs.declared.name.Name.{Name}
 use Rattle.mz_trace.specs.declared.answer.Answer.{Answer}
@@ -12,15 +15,52 @@ use Rattle.mz_fit.specs.Standing.{Caller, Standing, default_zone, caller_at, hel
 use Rattle.mz_fit.specs.Settings.{Setting}
 use Rattle.mz_fit.specs.Fitting.{FitsRecord}
 use Rattle.mz_fit.specs.After.{after_record}
+use Rattle.mz_record.specs.Dropped.{IsDropped}
+use Rattle.mz_book.specs.Growth.{Grows}
+use Rattle.mz_book.specs.Account.{Account, HoldsNothing, state_of, hand}
+use Rattle.mz_rack.specs.declared.rack.Rack.{Rack}
 use Rattle.mz_rack.specs.Lots.{LotView}
-use Rattle.mz_session.specs.Names.{NamedLots, block_of, lot_named, block_named}
+use Rattle.mz_session.specs.Names.{NamedLots, block_of, blocks_named, lot_named, block_named}
+use Rattle.mz_session.specs.Counts.{count_of}
 
 
--- What contracts see of a session: the profile, all entries so far, and the names that are held with their lots.
+-- a space for one caller, of one zone, without nano
+pub record IsForOne (p : Profile) : Type 0 where
+  pub callers : p.callers ≡ 1
+  pub nano : p.nano ≡ 0
+  pub zones : p.zones ≡ 1
+
+-- What contracts see of a session: its rack, the account of its book, and the names that are held with their lots.
 pub record SessionView : Type 0 where
-  pub profile : Profile
-  pub seen : List Entry
+  pub rack : Rack
+  pub book : Account
   pub lots : NamedLots
+
+-- the lot is one of zone 0 and of this space, and no larger than what regions serve
+pub record IsOfSpace (x : Site) (l : LotView) : Type 0 where
+  pub zone : l.zone ≡ 0
+  pub space : l.span.space ≡ x
+  pub small : length l.span.bytes ≤ 32768
+
+-- What holds of a session between two commands. The rack is that of zone 0, nothing is held, and the blocks in the caller's hand
+-- are just those of the lots that have names, each of one name.
+pub record IsKept (s : SessionView) : Type 0 where
+  pub profile : s.rack.profile ≡ s.book.profile
+  pub zone : s.rack.zone ≡ 0
+  pub for_one : IsForOne s.book.profile
+  pub caller : s.book.caller ≡ 0
+  pub alone : IsTrue s.book.between
+  pub zone_open : IsTrue (is_open (state_of s.book) 0)
+  pub nothing_held : HoldsNothing s.book
+  pub of_space : (word : List ℕ) (l : LotView) → lot_named s.lots word ≡ Some l → IsOfSpace s.book.site l
+  pub hand : (b : Block) → count_of b (hand s.book) ≡ count_of b (blocks_named s.lots)
+
+-- the session before the first command
+pub record IsOpened (p : Profile) (s : SessionView) : Type 0 where
+  pub kept : IsKept s
+  pub profile : s.book.profile ≡ p
+  pub seen : s.book.seen ≡ []
+  pub lots : s.lots ≡ []
 
 -- The session stands for a standing: the zone default alone is open, nothing is on its way, and caller 0 is in that zone, holds
 -- just these names, and knows of the bytes of their blocks nothing that isn't so.
@@ -33,7 +73,7 @@ pub record StandsFor (s : SessionView) (v : Standing) : Type 0 where
 
 -- where a command stands, the last so far: all that was noted before it comes before, and its own entries follow
 abbrev pub setting_of : SessionView → SessionView → Standing → Setting
-setting_of s t v = record { profile = s.profile; history = t.seen; before = s.seen; standing = v }
+setting_of s t v = record { profile = s.book.profile; history = t.book.seen; before = s.book.seen; standing = v }
 
 -- what became of a command of caller 0
 abbrev pub record_of : Command → List Entry → Answer → LineRecord
@@ -43,8 +83,17 @@ record_of command entries answer = record { line = call 0 command; entries = ent
 -- that they make with the answer fits: whatever standing the session stood for, it stands for what the record leaves.
 pub record Serves (s : SessionView) (command : Command) (answer : Answer) (t : SessionView) : Type 0 where
   pub entries : List Entry
-  pub profile : t.profile ≡ s.profile
-  pub seen : t.seen ≡ s.seen ++ entries
+  pub kept : IsKept t
+  pub profile : t.book.profile ≡ s.book.profile
+  pub seen : t.book.seen ≡ s.book.seen ++ entries
   pub mine : AllByRecursion (λ e. e.caller ≡ 0) entries
   pub fits : (v : Standing) → StandsFor s v → FitsRecord (setting_of s t v) (record_of command entries answer)
   pub stands : (v : Standing) → StandsFor s v → StandsFor t (after_record (setting_of s t v) (record_of command entries answer))
+
+-- (until `free` of the rack is there) the block of a lot ended: the record grew by just the entries that drop it, and nothing is held
+pub record IsFreed (s : Account) (l : LotView) (t : Account) : Type 0 where
+  pub mine : List Entry
+  pub holds : ℕ
+  pub grows : Grows s mine holds t
+  pub nothing_held : HoldsNothing t
+  pub dropped : IsDropped s.profile t.seen (block_of l) mine

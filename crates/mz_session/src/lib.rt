@@ -21,6 +21,7 @@
 #![tactic(auto)]
 
 mod block;
+mod laws;
 mod listing;
 mod lots;
 mod session;

@@ -8,7 +8,7 @@ ghost use Rattle.mz_events.specs.State.{opening};
 ghost use Rattle.mz_events.specs.History.{AreLawful, after_all};
 ghost use Rattle.mz_fit.specs.Standing.{Standing, default_zone};
 ghost use Rattle.mz_fit.specs.Tail.{listing_of};
-ghost use Rattle.mz_session.specs.Kept.{IsForOne};
+ghost use Rattle.mz_session.specs.Sessions.{IsForOne};
 ghost use Rattle.mz_session.specs.Counts.{AreLive};
 
 use crate::block::Block;

@@ -1,15 +1,15 @@
 //! One caller's session.
 
-ghost use Rattle.std.specs.Prelude.{◌≡◌, ◌≤◌, [], IfOk, OnErr, IsTrue};
+ghost use Rattle.std.specs.Prelude.{◌≡◌, ◌≤◌, IfOk, IsTrue};
 ghost use Rattle.mz_base.specs.Lists.{has_block};
 ghost use Rattle.mz_book.specs.Account.{hand};
 ghost use Rattle.mz_rack.specs.Serving.{CanServe};
 ghost use Rattle.mz_session.specs.Names.{block_of};
 ghost use Rattle.mz_base.specs.Limits.{IsWithinLimits};
 ghost use Rattle.mz_trace.specs.declared.command.Command.TheVariants as command;
-ghost use Rattle.mz_session.specs.Kept.{IsForOne, IsFreed};
-ghost use Rattle.mz_session.specs.Sessions.{Serves};
+ghost use Rattle.mz_session.specs.Sessions.{IsForOne, IsOpened, IsKept, Serves, IsFreed};
 
+use crate::laws::{of_book, of_sessions};
 use crate::listing::listing;
 use crate::lots::Lots;
 use crate::statistics::statistics;
@@ -23,6 +23,9 @@ use mz_words::{BaseName, BlockName, Name, ShowCount, Shown};
 use std::alloc::{AllocError, Global};
 use std::marker::Model;
 use std::sync::Wait;
+
+// The alignment of a request that names none.
+const QUANTUM: u64 = 16;
 
 // The most entries that one command adds.
 const MOST_ENTRIES: u64 = 36;
@@ -41,15 +44,7 @@ impl Model for Session {
 
     ghost Value = { SessionView };
 
-    ghost use Rattle.mz_session.specs.Kept.{IsKept};
-
-    ghost view = { λ s. record {
-        profile = (⟦<PlainBook<Keeper> as Book<Keeper>>⟧.account s.book).profile;
-        seen = (⟦<PlainBook<Keeper> as Book<Keeper>>⟧.account s.book).seen;
-        lots = s.lots;
-    } };
-
-    ghost invariant = { λ s. IsKept s.rack (⟦<PlainBook<Keeper> as Book<Keeper>>⟧.account s.book) s.lots };
+    ghost view = { λ s. record { rack = s.rack; book = ⟦<PlainBook<Keeper> as Book<Keeper>>⟧.account s.book; lots = s.lots } };
 }
 
 impl Session {
@@ -57,7 +52,7 @@ impl Session {
     pub fn open(alloc: Global, p: &Profile) -> Result<Session, AllocError>
         requires limits { IsWithinLimits p.now }
         requires for_one { IsForOne p.now }
-        ensures { IfOk result (λ s. s ≡ record { profile = p.now; seen = []; lots = [] }) }
+        ensures { IfOk result (IsOpened p.now) }
     {
         let span = Space::new(alloc, p.pages)?;
         let keepers = Keeper::all(alloc, p, span)?;
@@ -72,34 +67,47 @@ impl Session {
 
     /// All entries so far, by ticket.
     pub fn history(&self) -> &[Entry]
-        ensures { result.now ≡ self.now.seen }
+        ensures { result.now ≡ self.now.book.seen }
     {
         self.book.history()
     }
 
-    /// Serves a request for a block of `n` bytes that is to have the name.
+    /// Serves a request for a block of `n` bytes that is to have the name. After want of memory the session may be any.
     pub fn malloc<R: Wait>(
         &mut self,
         rt: &R,
         name: BaseName,
         n: u64,
     ) -> Result<Answer, AllocError>
-        requires { n ≤ 32768 }
-        ensures ok { IfOk result (λ answer. Serves self.old (command.Malloc name n) answer self.new) }
-        ensures err { OnErr result (self.new ≡ self.old) }
+        requires kept { IsKept self.old }
+        requires small { n ≤ 32768 }
+        ensures { IfOk result (λ answer. Serves self.old (command.Malloc name n) answer self.new) }
     {
+        of_sessions();
         if self.lots.get(&name).is_some() {
             return Ok(Answer::Held);
         }
         self.book.reserve(MOST_ENTRIES)?;
-        self.lots.ask(rt, &self.rack, &mut self.book, name, n)
+        let got = self.rack.alloc(rt, &mut self.book, n, QUANTUM);
+        of_book(&self.book);
+        let lot = match got {
+            Ok(lot) => lot,
+            Err(_null) => return Ok(Answer::Null),
+        };
+        let answer = Answer::Block {
+            a: lot.first(),
+            s: lot.size(),
+        };
+        self.lots.insert(name, lot)?;
+        Ok(answer)
     }
 
-    /// Ends the block that has the name.
+    /// Ends the block that has the name. After want of memory the session may be any.
     pub fn free<R: Wait>(&mut self, rt: &R, name: BlockName) -> Result<Answer, AllocError>
-        ensures ok { IfOk result (λ answer. Serves self.old (command.Free name) answer self.new) }
-        ensures err { OnErr result (self.new ≡ self.old) }
+        requires { IsKept self.old }
+        ensures { IfOk result (λ answer. Serves self.old (command.Free name) answer self.new) }
     {
+        of_sessions();
         let Name::Base(base) = name.get() else {
             return Ok(Answer::NotHeld);
         };
@@ -108,25 +116,28 @@ impl Session {
             return Ok(Answer::NotHeld);
         };
         stub_free(rt, &self.rack, &mut self.book, lot);
+        of_book(&self.book);
         Ok(Answer::Done)
     }
 
     /// Makes all bytes of the block `byte`.
     pub fn fill(&mut self, name: BlockName, byte: u8) -> Answer
+        requires { IsKept self.old }
         ensures { Serves self.old (command.Fill name byte) result self.new }
     {
         let Name::Base(base) = name.get() else {
             return Answer::NotHeld;
         };
-        if self.lots.fill(&base, byte) {
-            Answer::Done
-        } else {
-            Answer::NotHeld
+        if self.lots.get(&base).is_none() {
+            return Answer::NotHeld;
         }
+        self.lots.fill(&base, byte);
+        Answer::Done
     }
 
     /// Shows `count` bytes of the block from `off` on.
     pub fn show(&self, name: BlockName, off: u64, count: ShowCount) -> Answer
+        requires { IsKept self.now }
         ensures { Serves self.now (command.Show name off count) result self.now }
     {
         let Name::Base(base) = name.get() else {
@@ -143,6 +154,7 @@ impl Session {
 
     /// Writes the address of the block `target` into the block at `off`, least byte first.
     pub fn link(&mut self, name: BlockName, off: u64, target: BlockName) -> Answer
+        requires { IsKept self.old }
         ensures { Serves self.old (command.Link name off target) result self.new }
     {
         let (Name::Base(base), Name::Base(target)) = (name.get(), target.get()) else {

@@ -7,3 +7,4 @@ mod StandsLemmas
 mod RecordLemmas
 mod TicketLemmas
 mod RackLemmas
+mod KeptLemmas

@@ -9,7 +9,7 @@ use Rattle.std.proofs.lemmas.List.{append-nil}
 use Rattle.mz_base.specs.Space.{Block}
 use Rattle.mz_events.specs.declared.entry.Entry.{Entry}
 use Rattle.mz_words.specs.declared.name.Name.{Name}
-use Rattle.mz_words.specs.declared.name.Name.TheVariants.{Base}
+use Rattle.mz_words.specs.declared.name.Name.TheVariants.{Base, Batch, Given}
 use Rattle.mz_trace.specs.declared.answer.Answer.{Answer}
 use Rattle.mz_trace.specs.declared.answer.Answer.TheVariants as answers
 use Rattle.mz_trace.specs.declared.command.Command.{Command}
@@ -23,7 +23,7 @@ use Rattle.mz_fit.specs.Tasks.{Task, refused, serving, dropping, filling, showin
 use Rattle.mz_fit.specs.Fitting.{block_answer, IsAnswer, AreEntries, are_bytes_shown, is_rising_from, FitsRecord}
 use Rattle.mz_fit.specs.After.{after_task, after_record}
 use Rattle.mz_session.specs.Names.{NamedLots, block_named}
-use Rattle.mz_session.specs.Sessions.{SessionView, StandsFor, setting_of, record_of, Serves}
+use Rattle.mz_session.specs.Sessions.{SessionView, IsKept, StandsFor, setting_of, record_of, Serves}
 
 -- A record fits, and the session stands for what it leaves.
 pub record Fits (set : Setting) (d : LineRecord) (t : SessionView) : Type 0 where
@@ -46,10 +46,12 @@ fits-by set d t task is answer entries bytes in_turn stands = record {
 }
 
 pub serves-by :
-    (s t : SessionView) (command : Command) (answer : Answer) (es : List Entry) → t.profile ≡ s.profile → t.seen ≡ s.seen ++ es → AllByRecursion (λ e. e.caller ≡ 0) es
+    (s t : SessionView) (command : Command) (answer : Answer) (es : List Entry) → IsKept t → t.book.profile ≡ s.book.profile → t.book.seen ≡ s.book.seen ++ es
+    → AllByRecursion (λ e. e.caller ≡ 0) es
     → ((v : Standing) → StandsFor s v → Fits (setting_of s t v) (record_of command es answer) t) → Serves s command answer t
-serves-by s t command answer es profile seen mine fits = record {
+serves-by s t command answer es kept profile seen mine fits = record {
   entries = es;
+  kept = kept;
   profile = profile;
   seen = seen;
   mine = mine;
@@ -59,17 +61,24 @@ serves-by s t command answer es profile seen mine fits = record {
 
 -- a command with no entry
 pub serves-quietly :
-    (s t : SessionView) (command : Command) (answer : Answer) → t.profile ≡ s.profile → t.seen ≡ s.seen
+    (s t : SessionView) (command : Command) (answer : Answer) → IsKept t → t.book ≡ s.book
     → ((v : Standing) → StandsFor s v → Fits (setting_of s t v) (record_of command [] answer) t) → Serves s command answer t
-serves-quietly s t command answer profile seen fits = serves-by s t command answer [] profile (seen ∙ sym (append-nil s.seen)) tt fits
+serves-quietly s t command answer kept same fits =
+    serves-by s t command answer [] kept (ap (λ b. b.profile) same) (ap (λ b. b.seen) same ∙ sym (append-nil s.book.seen)) tt fits
 
 -- one that is refused
 pub serves-refused :
-    (s : SessionView) (command : Command) (answer : Answer) → ((v : Standing) → StandsFor s v → task_of (setting_of s s v) (call 0 command) ≡ refused answer)
+    (s : SessionView) (command : Command) (answer : Answer) → IsKept s → ((v : Standing) → StandsFor s v → task_of (setting_of s s v) (call 0 command) ≡ refused answer)
     → Serves s command answer s
-serves-refused s command answer task =
-    serves-quietly s s command answer refl refl
+serves-refused s command answer kept task =
+    serves-quietly s s command answer kept refl
     (λ v stands. fits-by (setting_of s s v) (record_of command [] answer) s (refused answer) (task v stands) refl refl refl refl stands)
+
+-- a name that isn't a base name has no block
+pub not-base : (lots : NamedLots) (name : Name) → ((word : List ℕ) → name ≡ Base word → ⊥) → block_named lots name ≡ None
+not-base lots (Base word) other = absurd (other word refl)
+not-base lots (Batch b) other = refl
+not-base lots (Given g) other = refl
 
 -- what the lines of a session are to do
 module _ (s : SessionView) (set : Setting) (stands : StandsFor s set.standing) where

@@ -48,7 +48,9 @@ shown-drop (suc n) (Some b ∷ bs) (u ∷ us) all = shown-drop n bs us (and_part
 -- the bytes of a number, least byte first, are those that std gives
 byte-later : (i n : ℕ) → byte_at (suc i) n ≡ byte_at i (n / 256)
 byte-later zero n = refl
-byte-later (suc i) n = ap (λ x. x % 256) (sym (div-div-eq-div-mul n 256 (256 ^ suc i)))
+byte-later (suc i) n =
+    let power : 256 * 256 ^ suc i ≡ 256 ^ suc (suc i) = grind arith in
+    ap (λ x. n / x % 256) (sym power) ∙ ap (λ x. x % 256) (sym (div-div-eq-div-mul n 256 (256 ^ suc i)))
 
 bytes-later : (i k n : ℕ) → bytes_low_first (suc i) k n ≡ bytes_low_first i k (n / 256)
 bytes-later i zero n = refl
@@ -68,17 +70,17 @@ pub shown-linked :
     → is_shown_as (linked off a known) (written off (low_bytes 8 a) bytes) ≡ true
 shown-linked off a known bytes all =
     subst (λ n. is_shown_as (linked off a known) (take off bytes ++ low_bytes 8 a ++ drop (off + n) bytes) ≡ true) (sym (length-low 8 a))
-    (shown-append (take off known) (take off bytes) (map (λ x. Some x) (low_bytes 8 a) ++ drop (off + 8) known) (low_bytes 8 a ++ drop (off + 8) bytes)
-    (shown-take off known bytes all)
-    (shown-append (map (λ x. Some x) (low_bytes 8 a)) (low_bytes 8 a) (drop (off + 8) known) (drop (off + 8) bytes) (shown-known (low_bytes 8 a)) (shown-drop (off + 8) known bytes all)))
+    (shown-append (take off known ++ map (λ x. Some x) (low_bytes 8 a)) (take off bytes ++ low_bytes 8 a) (drop (off + 8) known) (drop (off + 8) bytes)
+    (shown-append (take off known) (take off bytes) (map (λ x. Some x) (low_bytes 8 a)) (low_bytes 8 a) (shown-take off known bytes all) (shown-known (low_bytes 8 a)))
+    (shown-drop (off + 8) known bytes all))
 
 -- bytes with others written over some are as many
 pub length-written : (off : ℕ) (ws bs : List ℕ) → off + length ws ≤ length bs → length (written off ws bs) ≡ length bs
 length-written off ws bs room =
     let front = length-take-le off bs (omega (arith, room)) in
     let back = length-drop (off + length ws) bs in
-    let all = length-append (take off bs) (ws ++ drop (off + length ws) bs) in
-    let rest = length-append ws (drop (off + length ws) bs) in
+    let all = length-append (take off bs ++ ws) (drop (off + length ws) bs) in
+    let rest = length-append (take off bs) ws in
     omega (arith, room, front, back, all, rest)
 
 -- bytes that are as many as those over which they are written are all that is there then

@@ -43,7 +43,7 @@ pub record IsOfSpace (x : Site) (l : LotView) : Type 0 where
   pub small : length l.span.bytes ≤ 32768
 
 -- What holds of a session between two commands. The rack is that of zone 0, nothing is held, and the blocks in the caller's hand
--- are just those of the lots that have names, each of one name.
+-- are just those of the lots that have names, each once.
 pub record IsKept (s : SessionView) : Type 0 where
   pub profile : s.rack.profile ≡ s.book.profile
   pub zone : s.rack.zone ≡ 0
@@ -53,7 +53,8 @@ pub record IsKept (s : SessionView) : Type 0 where
   pub zone_open : IsTrue (is_open (state_of s.book) 0)
   pub nothing_held : HoldsNothing s.book
   pub of_space : (word : List ℕ) (l : LotView) → lot_named s.lots word ≡ Some l → IsOfSpace s.book.site l
-  pub hand : (b : Block) → count_of b (hand s.book) ≡ count_of b (blocks_named s.lots)
+  pub in_hand : (b : Block) → count_of b (hand s.book) ≡ count_of b (blocks_named s.lots)
+  pub once : (b : Block) → count_of b (hand s.book) ≤ 1
 
 -- the session before the first command
 pub record IsOpened (p : Profile) (s : SessionView) : Type 0 where

@@ -1,6 +1,6 @@
 //! One caller's session.
 
-ghost use Rattle.std.specs.Prelude.{◌≡◌, ◌≤◌, IfOk, IsTrue};
+ghost use Rattle.std.specs.Prelude.{◌≡◌, ◌+◌, ◌≤◌, ◌↔◌, length, take, drop, IsSome, IfSome, IfOk, IsTrue};
 ghost use Rattle.mz_base.specs.Lists.{has_block};
 ghost use Rattle.mz_book.specs.Account.{hand};
 ghost use Rattle.mz_rack.specs.Serving.{CanServe};
@@ -26,6 +26,9 @@ use std::sync::Wait;
 
 // The alignment of a request that names none.
 const QUANTUM: u64 = 16;
+
+// The bytes of an address.
+const ADDRESS: u64 = 8;
 
 // The most entries that one command adds.
 const MOST_ENTRIES: u64 = 36;
@@ -146,7 +149,7 @@ impl Session {
         let Some(lot) = self.lots.get(&base) else {
             return Answer::NotHeld;
         };
-        match bytes_at(lot.bytes(), off, count.number()) {
+        match bytes_at(lot.bytes(), off, count) {
             Some(shown) => Answer::Bytes { shown },
             None => Answer::OutOfRange,
         }
@@ -157,17 +160,23 @@ impl Session {
         requires { IsKept self.old }
         ensures { Serves self.old (command.Link name off target) result self.new }
     {
-        let (Name::Base(base), Name::Base(target)) = (name.get(), target.get()) else {
+        let Name::Base(base) = name.get() else {
             return Answer::NotHeld;
         };
-        let (Some(lot), Some(target)) = (self.lots.get(&base), self.lots.get(&target)) else {
+        let Some(lot) = self.lots.get(&base) else {
             return Answer::NotHeld;
         };
-        if off > lot.size() || lot.size() - off < 8 {
+        let Name::Base(target) = target.get() else {
+            return Answer::NotHeld;
+        };
+        let Some(target) = self.lots.get(&target) else {
+            return Answer::NotHeld;
+        };
+        if lot.size() < ADDRESS || off > lot.size() - ADDRESS {
             return Answer::OutOfRange;
         }
-        let first = target.first().to_le_bytes();
-        self.lots.write(&base, off, &first);
+        let address = target.first().to_le_bytes();
+        self.lots.write(&base, off, &address);
         Answer::Done
     }
 
@@ -183,12 +192,17 @@ impl Session {
 }
 
 // So many bytes from `off` on, where there are so many.
-fn bytes_at(bytes: &[u8], off: u64, count: u64) -> Option<Shown> {
-    let len = bytes.len() as u64;
-    if off > len || len - off < count {
+fn bytes_at(bytes: &[u8], off: u64, count: ShowCount) -> Option<Shown>
+    ensures some { IfSome result (λ shown. shown ≡ take count (drop off bytes.now)) }
+    ensures there { IsSome result ↔ (off + count ≤ length bytes.now) }
+{
+    let count = count.number() as usize;
+    let len = bytes.len();
+    if len < count || off > (len - count) as u64 {
         return None;
     }
-    Shown::new(&bytes[off as usize..(off + count) as usize])
+    let off = off as usize;
+    Shown::new(&bytes[off..off + count])
 }
 
 // STUB

@@ -8,3 +8,4 @@ mod RecordLemmas
 mod TicketLemmas
 mod RackLemmas
 mod KeptLemmas
+mod ServedLemmas

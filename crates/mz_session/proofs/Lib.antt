@@ -8,4 +8,5 @@ mod RecordLemmas
 mod TicketLemmas
 mod RackLemmas
 mod KeptLemmas
+mod SizeLemmas
 mod ServedLemmas

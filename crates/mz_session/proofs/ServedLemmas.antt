@@ -20,25 +20,29 @@ use Rattle.mz_words.specs.declared.name.Name.TheVariants.{Base, Batch, Given}
 use Rattle.mz_trace.specs.declared.answer.Answer.{Answer}
 use Rattle.mz_trace.specs.declared.answer.Answer.TheVariants as answers
 use Rattle.mz_trace.specs.declared.command.Command.TheVariants.{Malloc, Free}
+use Rattle.mz_record.specs.Served.{events, first_made, Serves as ServesRequest}
 use Rattle.mz_record.specs.Dropped.{IsDropped}
 use Rattle.mz_fit.specs.Standing.{Standing}
 use Rattle.mz_fit.specs.Settings.{above}
-use Rattle.mz_fit.specs.Tasks.{refused, dropping}
-use Rattle.mz_fit.specs.Fitting.{is_rising_from}
+use Rattle.mz_fit.specs.Tasks.{refused, serving, dropping, request_of}
+use Rattle.mz_fit.specs.Fitting.{block_answer, is_rising_from}
+use Rattle.mz_fit.specs.After.{changed, with_served}
 use Rattle.mz_book.specs.Account.{Account, IsOrderly, HoldsNothing, state_of, hand}
 use Rattle.mz_book.specs.Growth.{Adds}
 use Rattle.mz_rack.specs.Lots.{LotView}
-use Rattle.mz_rack.specs.Serving.{CanServe}
+use Rattle.mz_rack.specs.declared.lot.Null.{Null}
+use Rattle.mz_rack.specs.Serving.{CanServe, Answers, keepers_for}
 use Rattle.mz_session.specs.Names.{NamedLots, block_of, blocks_named, lot_named, block_named}
 use Rattle.mz_session.specs.Counts.{count_of, count_in, AreWith}
 use Rattle.mz_session.specs.SessionLaws.{SessionLaws}
 use Rattle.mz_session.specs.Sessions.{SessionView, IsForOne, IsOfSpace, IsKept, StandsFor, setting_of, record_of, Serves, IsFreed}
-use Rattle.mz_session.proofs.CountLemmas.{counted-there, same-is, one-true, one-false, count-gone, count-others}
+use Rattle.mz_session.proofs.CountLemmas.{some-is, same-self, count-cons, count-append, counted-there, same-is, one-true, one-false, count-gone, count-others}
 use Rattle.mz_session.proofs.NameLemmas.{one-named, same-names}
 use Rattle.mz_session.proofs.TicketLemmas.{counts-indices, rising-behind}
-use Rattle.mz_session.proofs.RackLemmas.{added-own, hand-after, hand-once}
-use Rattle.mz_session.proofs.StandsLemmas.{stands-dropped}
-use Rattle.mz_session.proofs.RecordLemmas.{fits-by, serves-by, with-none, with-some}
+use Rattle.mz_session.proofs.RackLemmas.{added-own, hand-after, hand-once, no-name}
+use Rattle.mz_session.proofs.StandsLemmas.{stands-served, stands-unserved, stands-dropped}
+use Rattle.mz_session.proofs.RecordLemmas.{fits-by, serves-by, task-serving, with-none, with-some}
+use Rattle.mz_session.proofs.SizeLemmas.{served-small}
 use Rattle.mz_session.proofs.KeptLemmas.{apart, of-space-with}
 
 -- the book has room for more entries
@@ -191,3 +195,93 @@ serves-not-held s kept b lots word room none with_it =
         fits-by (setting_of s u v) (record_of (Free (Base word)) [] answers.NotHeld) u (refused answers.NotHeld)
         (with-none s (setting_of s u v) stands (Base word) (λ x. dropping (Base word) x) (ap (option_map block_of) none)) refl refl refl refl
         (stands-alike s u v named stands))
+
+block-case : (c b : Block) (hand : List Block) → count_of c (hand ++ b ∷ []) ≡ count_of c hand + one_for (same_block c b)
+block-case c b hand =
+    let all = count-append c hand (b ∷ []) in
+    let one = count-cons c b [] in
+    omega (arith, all, one)
+
+-- a request was served, and the block has the name
+pub serves-malloc :
+    (L : SessionLaws) (s : SessionView) (kept : IsKept s) (b t : Account) (lots : NamedLots) (word : List ℕ) (n : ℕ) (l : LotView) → HasMoreRoom s.book b → n ≤ 32768
+    → lot_named s.lots word ≡ None → AreWith s.lots word (Some l) lots → Answers b s.rack.zone n 16 (Ok l) t → IsOrderly t
+    → Serves s (Malloc word n) (answers.Block l.span.first (length l.span.bytes)) (record { rack = s.rack; book = t; lots = lots })
+serves-malloc L s kept b t lots word n l room small free with_it asked orderly =
+    let u : SessionView = record { rack = s.rack; book = t; lots = lots } in
+    let mine = asked.mine in
+    let adds = asked.grows.adds in
+    let holds = keepers_for (events mine) in
+    let block = block_of l in
+    let hand_now : hand t ≡ hand s.book ++ block ∷ [] =
+    hand-through-mine L s kept b t room mine holds adds orderly
+    ∙ L.served b.profile t.seen (request_of b.caller s.rack.zone n 16) mine (Some block) (hand s.book) asked.serves.served in
+    let counts : (c : Block) → count_of c (hand t) ≡ count_of c (blocks_named lots) = λ c.
+        let now = ap (count_of c) hand_now in
+        let more = block-case c block (hand s.book) in
+        let old = kept.in_hand c in
+        let change = with_it.counted c in
+        let nothing = ap (count_in c) free in
+        omega (arith, now, more, old, change, nothing)
+    in
+    let fresh_block : count_of block (blocks_named s.lots) ≡ 0 =
+        let now = ap (count_of block) hand_now in
+        let more = block-case block block (hand s.book) in
+        let one = one-true (same_block block block) (same-self block) in
+        let once = hand-once t block orderly in
+        let old = kept.in_hand block in
+        omega (arith, now, more, one, once, old)
+    in
+    let of_l : IsOfSpace s.book.site l = record {
+      zone = asked.answer.0 ∙ kept.zone;
+      space = asked.answer.1 ∙ ap (λ x. x.site) room;
+      small = served-small b.profile t.seen (request_of b.caller s.rack.zone n 16) mine block small asked.serves.served;
+    } in
+    let kept_now =
+    kept-after L s kept b t room mine holds adds orderly lots asked.nothing_held
+    (of-space-with s.lots lots word (Some l) (IsOfSpace s.book.site) with_it (λ x is. subst (IsOfSpace s.book.site) (some-is l x is) of_l) kept.of_space) counts in
+    let made : Some block ≡ first_made mine = L.made b.profile t.seen (request_of b.caller s.rack.zone n 16) mine (Some block) asked.serves.served in
+    let request : ServesRequest s.book.profile t.seen (request_of 0 0 n 16) mine (first_made mine) =
+        subst (λ o. ServesRequest s.book.profile t.seen (request_of 0 0 n 16) mine o) made
+        (subst (λ z. ServesRequest s.book.profile t.seen (request_of 0 z n 16) mine (Some block)) kept.zone
+        (subst (λ c. ServesRequest s.book.profile t.seen (request_of c s.rack.zone n 16) mine (Some block)) (ap (λ x. x.caller) room ∙ kept.caller)
+        (subst (λ p. ServesRequest p t.seen (request_of b.caller s.rack.zone n 16) mine (Some block)) (ap (λ x. x.profile) room) asked.serves)))
+    in
+    serves-by s u (Malloc word n) (answers.Block block.first block.size) mine kept_now (same-profile L s kept b t room mine holds adds orderly) (more-seen L s kept b t room mine holds adds orderly)
+    (of-caller L s kept b t room mine holds adds orderly)
+    (λ v stands.
+        fits-by (setting_of s u v) (record_of (Malloc word n) mine (answers.Block block.first block.size)) u (serving (Base word) (request_of 0 0 n 16) 0)
+        (task-serving s (setting_of s u v) stands word n (ap (option_map block_of) free)) (ap block_answer made) request refl
+        (rising L s kept b t room mine holds adds orderly)
+        (subst (λ o. StandsFor u (changed 0 (with_served (Base word) 0 o) v)) made
+        (stands-served s u v stands word l with_it
+        (λ w m named. no-name s.lots w (block_of m) block fresh_block (ap (option_map block_of) named)) (L.unknown l.span.bytes))))
+
+-- none was served
+pub serves-null :
+    (L : SessionLaws) (s : SessionView) (kept : IsKept s) (b t : Account) (word : List ℕ) (n : ℕ) (e : Null) → HasMoreRoom s.book b → n ≤ 32768
+    → lot_named s.lots word ≡ None → Answers b s.rack.zone n 16 (Err e) t → IsOrderly t
+    → Serves s (Malloc word n) answers.Null (record { rack = s.rack; book = t; lots = s.lots })
+serves-null L s kept b t word n e room small free asked orderly =
+    let u : SessionView = record { rack = s.rack; book = t; lots = s.lots } in
+    let mine = asked.mine in
+    let adds = asked.grows.adds in
+    let holds = keepers_for (events mine) in
+    let hand_now : hand t ≡ hand s.book =
+    hand-through-mine L s kept b t room mine holds adds orderly
+    ∙ L.served b.profile t.seen (request_of b.caller s.rack.zone n 16) mine None (hand s.book) asked.serves.served ∙ append-nil (hand s.book) in
+    let kept_now = kept-after L s kept b t room mine holds adds orderly s.lots asked.nothing_held kept.of_space (λ c. ap (count_of c) hand_now ∙ kept.in_hand c) in
+    let made : None ≡ first_made mine = L.made b.profile t.seen (request_of b.caller s.rack.zone n 16) mine None asked.serves.served in
+    let request : ServesRequest s.book.profile t.seen (request_of 0 0 n 16) mine (first_made mine) =
+        subst (λ o. ServesRequest s.book.profile t.seen (request_of 0 0 n 16) mine o) made
+        (subst (λ z. ServesRequest s.book.profile t.seen (request_of 0 z n 16) mine None) kept.zone
+        (subst (λ c. ServesRequest s.book.profile t.seen (request_of c s.rack.zone n 16) mine None) (ap (λ x. x.caller) room ∙ kept.caller)
+        (subst (λ p. ServesRequest p t.seen (request_of b.caller s.rack.zone n 16) mine None) (ap (λ x. x.profile) room) asked.serves)))
+    in
+    serves-by s u (Malloc word n) answers.Null mine kept_now (same-profile L s kept b t room mine holds adds orderly) (more-seen L s kept b t room mine holds adds orderly)
+    (of-caller L s kept b t room mine holds adds orderly)
+    (λ v stands.
+        fits-by (setting_of s u v) (record_of (Malloc word n) mine answers.Null) u (serving (Base word) (request_of 0 0 n 16) 0)
+        (task-serving s (setting_of s u v) stands word n (ap (option_map block_of) free)) (ap block_answer made) request refl
+        (rising L s kept b t room mine holds adds orderly)
+        (subst (λ o. StandsFor u (changed 0 (with_served (Base word) 0 o) v)) made (stands-unserved s u v stands word (λ w. refl))))

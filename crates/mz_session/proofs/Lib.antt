@@ -8,5 +8,6 @@ mod RecordLemmas
 mod TicketLemmas
 mod RackLemmas
 mod KeptLemmas
+mod BytesLemmas
 mod SizeLemmas
 mod ServedLemmas

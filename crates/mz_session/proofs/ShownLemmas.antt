@@ -60,7 +60,7 @@ pub low-bytes : (k n : ℕ) → bytes_low_first 0 k n ≡ low_bytes k n
 low-bytes zero n = refl
 low-bytes (suc k) n = ap (λ bs. n % 256 ∷ bs) (bytes-later 0 k n ∙ low-bytes k (n / 256))
 
-length-low : (k a : ℕ) → length (low_bytes k a) ≡ k
+pub length-low : (k a : ℕ) → length (low_bytes k a) ≡ k
 length-low zero a = refl
 length-low (suc k) a = ap suc (length-low k (a / 256))
 

@@ -1,6 +1,6 @@
 //! One caller's session.
 
-ghost use Rattle.std.specs.Prelude.{◌≡◌, ◌+◌, ◌≤◌, ◌↔◌, length, take, drop, IsSome, IfSome, IfOk, IsTrue};
+ghost use Rattle.std.specs.Prelude.{◌≡◌, ◌+◌, ◌≤◌, ◌↔◌, nat_le, length, take, drop, IsSome, IfSome, IfOk, IsTrue};
 ghost use Rattle.mz_base.specs.Lists.{has_block};
 ghost use Rattle.mz_book.specs.Account.{hand};
 ghost use Rattle.mz_rack.specs.Serving.{CanServe};
@@ -172,7 +172,7 @@ impl Session {
         let Some(target) = self.lots.get(&target) else {
             return Answer::NotHeld;
         };
-        if lot.size() < ADDRESS || off > lot.size() - ADDRESS {
+        if !has_room(lot.size(), off, ADDRESS) {
             return Answer::OutOfRange;
         }
         let address = target.first().to_le_bytes();
@@ -189,6 +189,13 @@ impl Session {
             statistics: statistics(self.book.history()),
         })
     }
+}
+
+// Whether there are so many bytes from `off` on among `len`.
+fn has_room(len: u64, off: u64, count: u64) -> bool
+    ensures { result ≡ nat_le (off + count) len }
+{
+    count <= len && off <= len - count
 }
 
 // So many bytes from `off` on, where there are so many.

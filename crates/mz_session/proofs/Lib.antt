@@ -11,3 +11,4 @@ mod KeptLemmas
 mod BytesLemmas
 mod SizeLemmas
 mod ServedLemmas
+mod OpenedLemmas

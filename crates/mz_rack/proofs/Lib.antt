@@ -12,3 +12,9 @@ mod Answered
 mod KeeperLemmas
 mod StockLemmas
 mod OpeningLemmas
+mod Looking
+mod Ended
+mod PuttingAside
+mod GivingBack
+mod Dropping
+mod Asked

@@ -7,5 +7,8 @@ pub mod Answering
 pub mod Lots
 pub mod Ways
 pub mod Serving
+pub mod Freeing
 pub mod Stages
+pub mod Ending
+pub mod FreeStages
 pub mod BookLaws

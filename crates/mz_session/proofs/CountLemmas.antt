@@ -7,7 +7,7 @@ use Rattle.mz_base.specs.Lists.{has_block, drop_block}
 use Rattle.mz_events.specs.Changes.{one_for}
 use Rattle.mz_book.specs.declared.pair.Pair.{Pair}
 use Rattle.mz_book.specs.Pairs.{block_of as block_of_pair, hand_among, owners}
-use Rattle.mz_session.specs.Counts.{count_of}
+use Rattle.mz_book.specs.Living.{times}
 
 pub some-is : {A : Type 0} (a b : A) → Some a ≡ Some b → a ≡ b
 some-is a b same = ap (λ o. elim o [ None ↦ a | Some x ↦ x ]) same
@@ -31,10 +31,10 @@ length-case : {A : Type 0} (x : A) (xs : List A) (d : Bool) → length (cond d (
 length-case x xs true = omega arith
 length-case x xs false = omega arith
 
-pub count-cons : (b c : Block) (bs : List Block) → count_of b (c ∷ bs) ≡ one_for (same_block b c) + count_of b bs
+pub count-cons : (b c : Block) (bs : List Block) → times b (c ∷ bs) ≡ one_for (same_block b c) + times b bs
 count-cons b c bs = length-case c (filter (same_block b) bs) (same_block b c)
 
-pub count-append : (b : Block) (bs cs : List Block) → count_of b (bs ++ cs) ≡ count_of b bs + count_of b cs
+pub count-append : (b : Block) (bs cs : List Block) → times b (bs ++ cs) ≡ times b bs + times b cs
 count-append b [] cs = omega arith
 count-append b (c ∷ bs) cs =
     let rest = count-append b bs cs in
@@ -46,31 +46,31 @@ drop-case : (b c : Block) (bs : List Block) (d : Bool) → same_block b c ≡ d 
 drop-case b c bs d is = ap (λ t. cond (not t) (c ∷ drop_block b bs) (drop_block b bs)) is
 
 -- a dropped block isn't counted
-pub count-gone : (b : Block) (bs : List Block) → count_of b (drop_block b bs) ≡ 0
+pub count-gone : (b : Block) (bs : List Block) → times b (drop_block b bs) ≡ 0
 count-gone b [] = refl
 count-gone b (c ∷ bs) = elim (cases_Bool (same_block b c)) [
-  | inl same ↦ ap (count_of b) (drop-case b c bs true same) ∙ count-gone b bs
+  | inl same ↦ ap (times b) (drop-case b c bs true same) ∙ count-gone b bs
   | inr other ↦
       let kept = count-cons b c (drop_block b bs) in
       let zero = one-false (same_block b c) other in
       let rest = count-gone b bs in
-      let whole = ap (count_of b) (drop-case b c bs false other) in
+      let whole = ap (times b) (drop-case b c bs false other) in
       omega (arith, kept, zero, rest, whole)
 ]
 
 -- and the others are as often there
-pub count-others : (b c : Block) (bs : List Block) → same_block c b ≡ false → count_of c (drop_block b bs) ≡ count_of c bs
+pub count-others : (b c : Block) (bs : List Block) → same_block c b ≡ false → times c (drop_block b bs) ≡ times c bs
 count-others b c [] other = refl
 count-others b c (d ∷ bs) other = elim (cases_Bool (same_block b d)) [
   | inl same ↦
       let rest = count-others b c bs other in
-      let gone = ap (count_of c) (drop-case b d bs true same) in
+      let gone = ap (times c) (drop-case b d bs true same) in
       let here = count-cons c d bs in
       let zero = one-false (same_block c d) (ap (same_block c) (sym (same-is b d same)) ∙ other) in
       omega (arith, rest, gone, here, zero)
   | inr kept ↦
       let rest = count-others b c bs other in
-      let stays = ap (count_of c) (drop-case b d bs false kept) in
+      let stays = ap (times c) (drop-case b d bs false kept) in
       let old = count-cons c d bs in
       let new = count-cons c d (drop_block b bs) in
       omega (arith, rest, stays, old, new)
@@ -85,7 +85,7 @@ or-right true b h = refl
 or-right false b h = h
 
 -- a block that is counted is there
-pub counted-there : (b : Block) (bs : List Block) → 1 ≤ count_of b bs → has_block bs b ≡ true
+pub counted-there : (b : Block) (bs : List Block) → 1 ≤ times b bs → has_block bs b ≡ true
 counted-there b [] some = absurd (omega (arith, some))
 counted-there b (c ∷ bs) some = elim (cases_Bool (same_block b c)) [
   | inl same ↦ or-left (same_block b c) (has_block bs b) same
@@ -100,17 +100,17 @@ among-case c h hs true is = ap (λ t. map block_of_pair (cond t (h ∷ filter (�
 among-case c h hs false is = ap (λ t. map block_of_pair (cond t (h ∷ filter (λ x. x.caller == c) hs) (filter (λ x. x.caller == c) hs))) is
 
 -- no block of a hand is counted more often than among all pairs
-pub hand-counted : (c : ℕ) (b : Block) (pairs : List Pair) → count_of b (hand_among c pairs) ≤ owners pairs b
+pub hand-counted : (c : ℕ) (b : Block) (pairs : List Pair) → times b (hand_among c pairs) ≤ owners pairs b
 hand-counted c b [] = omega arith
 hand-counted c b (h ∷ hs) =
     let rest = hand-counted c b hs in
     let all : owners (h ∷ hs) b ≡ one_for (same_block b (block_of_pair h)) + owners hs b = length-case h (filter (λ x. same_block b (block_of_pair x)) hs) (same_block b (block_of_pair h)) in
     elim (cases_Bool (h.caller == c)) [
       | inl mine ↦
-          let here = ap (count_of b) (among-case c h hs true mine) in
+          let here = ap (times b) (among-case c h hs true mine) in
           let counted = count-cons b (block_of_pair h) (hand_among c hs) in
           omega (arith, rest, all, here, counted)
       | inr other ↦
-          let here = ap (count_of b) (among-case c h hs false other) in
+          let here = ap (times b) (among-case c h hs false other) in
           omega (arith, rest, all, here)
     ]

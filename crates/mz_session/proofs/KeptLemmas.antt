@@ -19,7 +19,8 @@ use Rattle.mz_fit.specs.After.{changed, after_task}
 use Rattle.mz_book.specs.Account.{Account, HoldsNothing, state_of, hand}
 use Rattle.mz_rack.specs.Lots.{LotView, with_lot_bytes}
 use Rattle.mz_session.specs.Names.{NamedLots, block_of, blocks_named, lot_named}
-use Rattle.mz_session.specs.Counts.{count_of, count_in, AreWith}
+use Rattle.mz_book.specs.Living.{times}
+use Rattle.mz_session.specs.Counts.{count_in, AreWith}
 use Rattle.mz_session.specs.Sessions.{SessionView, IsOfSpace, IsKept, StandsFor, setting_of, record_of, Serves}
 use Rattle.mz_session.proofs.CountLemmas.{some-is}
 use Rattle.mz_session.proofs.RackLemmas.{names-apart}
@@ -91,6 +92,7 @@ kept-written s lots word l ws kept held many with_it =
           let same = ap (λ c. one_for (same_block b c)) (written-block l ws many) in
           omega (arith, old, new, found, same);
       once = kept.once;
+      mine = kept.mine;
     }
 
 -- a command that writes bytes of a block that has a name

@@ -7,8 +7,11 @@ mod StandsLemmas
 mod RecordLemmas
 mod TicketLemmas
 mod RackLemmas
+mod OwnerLemmas
 mod KeptLemmas
 mod BytesLemmas
 mod SizeLemmas
 mod ServedLemmas
 mod OpenedLemmas
+mod ListingLemmas
+mod StatisticsLemmas

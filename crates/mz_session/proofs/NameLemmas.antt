@@ -15,7 +15,8 @@ use Rattle.mz_base.specs.Space.{Block, same_block}
 use Rattle.mz_events.specs.Changes.{one_for}
 use Rattle.mz_rack.specs.Lots.{LotView}
 use Rattle.mz_session.specs.Names.{NamedLots, block_of, blocks_named, lot_named}
-use Rattle.mz_session.specs.Counts.{count_of, count_in, AreWith}
+use Rattle.mz_book.specs.Living.{times}
+use Rattle.mz_session.specs.Counts.{count_in, AreWith}
 use Rattle.mz_session.proofs.CountLemmas.{some-is, same-self, one-true, count-cons}
 
 -- equal names are at one place of the order
@@ -45,25 +46,25 @@ lot-changed old new name got word changed =
 
 -- counts
 
-blocks-count : (b : Block) (e : List ℕ × LotView) (es : NamedLots) → count_of b (blocks_named (e ∷ es)) ≡ one_for (same_block b (block_of e.1)) + count_of b (blocks_named es)
+blocks-count : (b : Block) (e : List ℕ × LotView) (es : NamedLots) → times b (blocks_named (e ∷ es)) ≡ one_for (same_block b (block_of e.1)) + times b (blocks_named es)
 blocks-count b e es = count-cons b (block_of e.1) (blocks_named es)
 
 removed-case :
     (t : List ℕ → Bool) (b : Block) (e : List ℕ × LotView) (es : NamedLots) (d : Bool)
-    → count_of b (blocks_named (remove_entry t es)) + count_in b (lookup t es) ≡ count_of b (blocks_named es)
-    → count_of b (blocks_named (cond d es (e ∷ remove_entry t es))) + count_in b (cond d (Some e.1) (lookup t es)) ≡ count_of b (blocks_named (e ∷ es))
+    → times b (blocks_named (remove_entry t es)) + count_in b (lookup t es) ≡ times b (blocks_named es)
+    → times b (blocks_named (cond d es (e ∷ remove_entry t es))) + count_in b (cond d (Some e.1) (lookup t es)) ≡ times b (blocks_named (e ∷ es))
 removed-case t b e es true rest = let all = blocks-count b e es in omega (arith, all)
 removed-case t b e es false rest = let all = blocks-count b e es in let left = blocks-count b e (remove_entry t es) in omega (arith, all, left, rest)
 
-pub count-removed : (t : List ℕ → Bool) (b : Block) (es : NamedLots) → count_of b (blocks_named (remove_entry t es)) + count_in b (lookup t es) ≡ count_of b (blocks_named es)
+pub count-removed : (t : List ℕ → Bool) (b : Block) (es : NamedLots) → times b (blocks_named (remove_entry t es)) + count_in b (lookup t es) ≡ times b (blocks_named es)
 count-removed t b [] = refl
 count-removed t b (e ∷ es) = removed-case t b e es (t e.0) (count-removed t b es)
 
 set-case :
     (t : List ℕ → Bool) (b : Block) (w : LotView) (e : List ℕ × LotView) (es : NamedLots) (l : LotView) (d : Bool)
-    → (lookup t es ≡ Some l → count_of b (blocks_named (set_value t es w)) + count_in b (Some l) ≡ count_of b (blocks_named es) + count_in b (Some w))
+    → (lookup t es ≡ Some l → times b (blocks_named (set_value t es w)) + count_in b (Some l) ≡ times b (blocks_named es) + count_in b (Some w))
     → cond d (Some e.1) (lookup t es) ≡ Some l
-    → count_of b (blocks_named (cond d ((e.0, w) ∷ es) (e ∷ set_value t es w))) + count_in b (Some l) ≡ count_of b (blocks_named (e ∷ es)) + count_in b (Some w)
+    → times b (blocks_named (cond d ((e.0, w) ∷ es) (e ∷ set_value t es w))) + count_in b (Some l) ≡ times b (blocks_named (e ∷ es)) + count_in b (Some w)
 set-case t b w e es l true rest found =
     let all = blocks-count b e es in
     let new = blocks-count b (e.0, w) es in
@@ -77,15 +78,15 @@ set-case t b w e es l false rest found =
 
 pub count-set :
     (t : List ℕ → Bool) (b : Block) (w : LotView) (es : NamedLots) (l : LotView) → lookup t es ≡ Some l
-    → count_of b (blocks_named (set_value t es w)) + count_in b (Some l) ≡ count_of b (blocks_named es) + count_in b (Some w)
+    → times b (blocks_named (set_value t es w)) + count_in b (Some l) ≡ times b (blocks_named es) + count_in b (Some w)
 count-set t b w [] l found = absurd (none-some l found)
 count-set t b w (e ∷ es) l found = set-case t b w e es l (t e.0) (count-set t b w es l) found
 
 inserted-case :
     (name : List ℕ) (w : LotView) (b : Block) (e : List ℕ × LotView) (es : NamedLots) (o : Ordering)
-    → (lookup (finds name) es ≡ None → count_of b (blocks_named (insert_entry (slice_cmp nat_cmp) es name w)) ≡ count_of b (blocks_named es) + count_in b (Some w))
+    → (lookup (finds name) es ≡ None → times b (blocks_named (insert_entry (slice_cmp nat_cmp) es name w)) ≡ times b (blocks_named es) + count_in b (Some w))
     → cond (is_eq o) (Some e.1) (lookup (finds name) es) ≡ None
-    → count_of b (blocks_named (match_ordering o ((name, w) ∷ e ∷ es) ((e.0, w) ∷ es) (e ∷ insert_entry (slice_cmp nat_cmp) es name w))) ≡ count_of b (blocks_named (e ∷ es)) + count_in b (Some w)
+    → times b (blocks_named (match_ordering o ((name, w) ∷ e ∷ es) ((e.0, w) ∷ es) (e ∷ insert_entry (slice_cmp nat_cmp) es name w))) ≡ times b (blocks_named (e ∷ es)) + count_in b (Some w)
 inserted-case name w b e es Less rest none = let new = blocks-count b (name, w) (e ∷ es) in omega (arith, new)
 inserted-case name w b e es Equal rest none = absurd (none-some e.1 (sym none))
 inserted-case name w b e es Greater rest none =
@@ -96,7 +97,7 @@ inserted-case name w b e es Greater rest none =
 
 pub count-inserted :
     (name : List ℕ) (w : LotView) (b : Block) (es : NamedLots) → lookup (finds name) es ≡ None
-    → count_of b (blocks_named (insert_entry (slice_cmp nat_cmp) es name w)) ≡ count_of b (blocks_named es) + count_in b (Some w)
+    → times b (blocks_named (insert_entry (slice_cmp nat_cmp) es name w)) ≡ times b (blocks_named es) + count_in b (Some w)
 count-inserted name w b [] none = let new = blocks-count b (name, w) [] in omega (arith, new)
 count-inserted name w b (e ∷ es) none = inserted-case name w b e es (slice_cmp nat_cmp name e.0) (count-inserted name w b es) none
 
@@ -109,7 +110,7 @@ pub with-inserted :
 with-inserted old new name l free looked is = record {
   named = λ word. lot-changed old new name (Some l) word (looked word);
   counted = λ b.
-      let count = ap (λ es. count_of b (blocks_named es)) is in
+      let count = ap (λ es. times b (blocks_named es)) is in
       let more = count-inserted name l b old (lookup-lot old name ∙ free) in
       let none = ap (count_in b) free in
       omega (arith, count, more, none);
@@ -122,7 +123,7 @@ pub with-removed :
 with-removed old new name looked is = record {
   named = λ word. lot-changed old new name None word (looked word);
   counted = λ b.
-      let count = ap (λ es. count_of b (blocks_named es)) is in
+      let count = ap (λ es. times b (blocks_named es)) is in
       let less = count-removed (finds name) b old in
       let found = ap (count_in b) (lookup-lot old name) in
       omega (arith, count, less, found);
@@ -135,7 +136,7 @@ pub with-written :
 with-written old new name l w held looked is = record {
   named = λ word. lot-changed old new name (Some w) word (looked word);
   counted = λ b.
-      let count = ap (λ es. count_of b (blocks_named es)) is in
+      let count = ap (λ es. times b (blocks_named es)) is in
       let set = count-set (finds name) b w old l (lookup-lot old name ∙ held) in
       let found = ap (count_in b) held in
       omega (arith, count, set, found);
@@ -157,7 +158,7 @@ pub same-names : (old new : NamedLots) (name : List ℕ) → AreWith old name No
 same-names old new name with_it none word = with_it.named word ∙ sym (name-case (bytes_eq word name) (lot_named old word) (λ same. ap (lot_named old) ((bytes_eq-Decides word name).0 same) ∙ none))
 
 -- each name has a block that is counted
-here-counted : (e : List ℕ × LotView) (es : NamedLots) (b : Block) → Some (block_of e.1) ≡ Some b → count_of b (blocks_named (e ∷ es)) ≡ 1 + count_of b (blocks_named es)
+here-counted : (e : List ℕ × LotView) (es : NamedLots) (b : Block) → Some (block_of e.1) ≡ Some b → times b (blocks_named (e ∷ es)) ≡ 1 + times b (blocks_named es)
 here-counted e es b here =
     let all = blocks-count b e es in
     let same : same_block b (block_of e.1) ≡ true = subst (λ x. same_block b x ≡ true) (sym (some-is (block_of e.1) b here)) (same-self b) in
@@ -166,24 +167,24 @@ here-counted e es b here =
 
 named-case :
     (e : List ℕ × LotView) (es : NamedLots) (b : Block) (d : Bool) (o : Option LotView)
-    → (option_map block_of o ≡ Some b → 1 ≤ count_of b (blocks_named es)) → option_map block_of (cond d (Some e.1) o) ≡ Some b
-    → 1 ≤ count_of b (blocks_named (e ∷ es))
+    → (option_map block_of o ≡ Some b → 1 ≤ times b (blocks_named es)) → option_map block_of (cond d (Some e.1) o) ≡ Some b
+    → 1 ≤ times b (blocks_named (e ∷ es))
 named-case e es b true o rest named = let here = here-counted e es b named in omega (arith, here)
 named-case e es b false o rest named =
     let here = blocks-count b e es in
     let later = rest named in
     omega (arith, here, later)
 
-pub one-named : (lots : NamedLots) (word : List ℕ) (b : Block) → option_map block_of (lot_named lots word) ≡ Some b → 1 ≤ count_of b (blocks_named lots)
+pub one-named : (lots : NamedLots) (word : List ℕ) (b : Block) → option_map block_of (lot_named lots word) ≡ Some b → 1 ≤ times b (blocks_named lots)
 one-named [] word b named = absurd (none-some b named)
 one-named (e ∷ es) word b named = named-case e es b (bytes_eq word e.0) (lot_named es word) (one-named es word b) named
 
 -- and two names with one block count twice
 both-case :
     (v w : List ℕ) (e : List ℕ × LotView) (es : NamedLots) (b : Block) (c d : Bool) → bytes_eq v e.0 ≡ c → bytes_eq w e.0 ≡ d → bytes_eq v w ≡ false
-    → (option_map block_of (lot_named es v) ≡ Some b → option_map block_of (lot_named es w) ≡ Some b → 2 ≤ count_of b (blocks_named es))
+    → (option_map block_of (lot_named es v) ≡ Some b → option_map block_of (lot_named es w) ≡ Some b → 2 ≤ times b (blocks_named es))
     → option_map block_of (cond c (Some e.1) (lot_named es v)) ≡ Some b → option_map block_of (cond d (Some e.1) (lot_named es w)) ≡ Some b
-    → 2 ≤ count_of b (blocks_named (e ∷ es))
+    → 2 ≤ times b (blocks_named (e ∷ es))
 both-case v w e es b true true at_v at_w other rest this that =
     let same : v ≡ w = (bytes_eq-Decides v e.0).0 at_v ∙ sym ((bytes_eq-Decides w e.0).0 at_w) in
     absurd (false≢true (sym other ∙ (bytes_eq-Decides v w).1 same))
@@ -198,7 +199,7 @@ both-case v w e es b false false at_v at_w other rest this that =
 
 pub two-named :
     (lots : NamedLots) (v w : List ℕ) (b : Block) → bytes_eq v w ≡ false → option_map block_of (lot_named lots v) ≡ Some b → option_map block_of (lot_named lots w) ≡ Some b
-    → 2 ≤ count_of b (blocks_named lots)
+    → 2 ≤ times b (blocks_named lots)
 two-named [] v w b other this that = absurd (none-some b this)
 two-named (e ∷ es) v w b other this that =
     both-case v w e es b (bytes_eq v e.0) (bytes_eq w e.0) refl refl other (two-named es v w b other) this that

@@ -28,6 +28,7 @@ opened-here p x r for_one profile zone = record {
     of_space = λ w l named. absurd (none-some l named);
     in_hand = λ b. refl;
     once = λ b. omega arith;
+    mine = refl;
   };
   profile = refl;
   seen = refl;

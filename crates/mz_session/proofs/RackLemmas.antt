@@ -17,7 +17,8 @@ use Rattle.mz_book.specs.Pairs.{hand_among, owners}
 use Rattle.mz_book.specs.Growth.{pairs_through, Adds, Grows}
 use Rattle.mz_book.specs.Account.{Account, IsOrderly, HoldsNothing, state_of, hand, is_live}
 use Rattle.mz_session.specs.Names.{NamedLots, block_of, blocks_named, lot_named}
-use Rattle.mz_session.specs.Counts.{count_of, count_in}
+use Rattle.mz_book.specs.Living.{times}
+use Rattle.mz_session.specs.Counts.{count_in}
 use Rattle.mz_session.proofs.CountLemmas.{same-is, same-self, count-append, hand-counted}
 use Rattle.mz_session.proofs.NameLemmas.{one-named, two-named}
 
@@ -47,7 +48,7 @@ one-most true = omega arith
 one-most false = omega arith
 
 -- a block is in a book's hand once at most
-pub hand-once : (s : Account) (b : Block) → IsOrderly s → count_of b (hand s) ≤ 1
+pub hand-once : (s : Account) (b : Block) → IsOrderly s → times b (hand s) ≤ 1
 hand-once s b orderly =
     let most = hand-counted s.caller b s.pairs in
     let owned = orderly.owned b in
@@ -56,7 +57,7 @@ hand-once s b orderly =
 
 -- two names of which one block is counted once at most have different blocks
 pub names-apart :
-    (lots : NamedLots) (v w : List ℕ) (b c : Block) → ((x : Block) → count_of x (blocks_named lots) ≤ 1) → bytes_eq v w ≡ false
+    (lots : NamedLots) (v w : List ℕ) (b c : Block) → ((x : Block) → times x (blocks_named lots) ≤ 1) → bytes_eq v w ≡ false
     → option_map block_of (lot_named lots v) ≡ Some b → option_map block_of (lot_named lots w) ≡ Some c → same_block b c ≡ false
 names-apart lots v w b c once other at_v at_w = elim (cases_Bool (same_block b c)) [
   | inl same ↦
@@ -68,7 +69,7 @@ names-apart lots v w b c once other at_v at_w = elim (cases_Bool (same_block b c
 
 -- and one that isn't counted is no name's
 pub no-name :
-    (lots : NamedLots) (w : List ℕ) (b c : Block) → count_of c (blocks_named lots) ≡ 0 → option_map block_of (lot_named lots w) ≡ Some b → same_block b c ≡ false
+    (lots : NamedLots) (w : List ℕ) (b c : Block) → times c (blocks_named lots) ≡ 0 → option_map block_of (lot_named lots w) ≡ Some b → same_block b c ≡ false
 no-name lots w b c none at_w = elim (cases_Bool (same_block b c)) [
   | inl same ↦
       let some = one-named lots w c (at_w ∙ ap Some (same-is b c same)) in

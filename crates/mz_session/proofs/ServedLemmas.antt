@@ -28,14 +28,16 @@ use Rattle.mz_fit.specs.Tasks.{refused, serving, dropping, request_of}
 use Rattle.mz_fit.specs.Fitting.{block_answer, is_rising_from}
 use Rattle.mz_fit.specs.After.{changed, with_served}
 use Rattle.mz_book.specs.Account.{Account, IsOrderly, HoldsNothing, state_of, hand}
-use Rattle.mz_book.specs.Growth.{Adds}
+use Rattle.mz_book.specs.Growth.{pairs_through, Adds}
 use Rattle.mz_rack.specs.Lots.{LotView}
 use Rattle.mz_rack.specs.declared.lot.Null.{Null}
+use Rattle.mz_rack.specs.Freeing.{IsFreeable, Frees}
 use Rattle.mz_rack.specs.Serving.{CanServe, Answers, keepers_for}
 use Rattle.mz_session.specs.Names.{NamedLots, block_of, blocks_named, lot_named, block_named}
-use Rattle.mz_session.specs.Counts.{count_of, count_in, AreWith}
+use Rattle.mz_book.specs.Living.{times}
+use Rattle.mz_session.specs.Counts.{count_in, AreWith}
 use Rattle.mz_session.specs.SessionLaws.{SessionLaws}
-use Rattle.mz_session.specs.Sessions.{SessionView, IsForOne, IsOfSpace, IsKept, StandsFor, setting_of, record_of, Serves, IsFreed}
+use Rattle.mz_session.specs.Sessions.{SessionView, IsForOne, IsOfSpace, IsKept, StandsFor, setting_of, record_of, Serves}
 use Rattle.mz_session.proofs.CountLemmas.{some-is, same-self, count-cons, count-append, counted-there, same-is, one-true, one-false, count-gone, count-others}
 use Rattle.mz_session.proofs.NameLemmas.{one-named, same-names}
 use Rattle.mz_session.proofs.TicketLemmas.{counts-indices, rising-behind}
@@ -43,6 +45,7 @@ use Rattle.mz_session.proofs.RackLemmas.{added-own, hand-after, hand-once, no-na
 use Rattle.mz_session.proofs.StandsLemmas.{stands-served, stands-unserved, stands-dropped}
 use Rattle.mz_session.proofs.RecordLemmas.{fits-by, serves-by, task-serving, with-none, with-some}
 use Rattle.mz_session.proofs.SizeLemmas.{served-small}
+use Rattle.mz_session.proofs.OwnerLemmas.{are_mine, mine-through}
 use Rattle.mz_session.proofs.KeptLemmas.{apart, of-space-with}
 
 -- the book has room for more entries
@@ -75,7 +78,7 @@ module _ (L : SessionLaws) (s : SessionView) (kept : IsKept s) (b t : Account) (
 
   pub kept-after :
       (lots : NamedLots) → HoldsNothing t → ((w : List ℕ) (l : LotView) → lot_named lots w ≡ Some l → IsOfSpace s.book.site l)
-      → ((c : Block) → count_of c (hand t) ≡ count_of c (blocks_named lots)) → IsKept (record { rack = s.rack; book = t; lots = lots })
+      → ((c : Block) → times c (hand t) ≡ times c (blocks_named lots)) → IsKept (record { rack = s.rack; book = t; lots = lots })
   kept-after lots nothing of_space in_hand = record {
     profile = kept.profile ∙ sym same-profile;
     zone = kept.zone;
@@ -87,12 +90,13 @@ module _ (L : SessionLaws) (s : SessionView) (kept : IsKept s) (b t : Account) (
     of_space = λ w l named. subst (λ x. IsOfSpace x l) (sym same-site) (of_space w l named);
     in_hand = in_hand;
     once = λ c. hand-once t c orderly;
+    mine = ap (are_mine 0) (adds.pairs ∙ ap (λ c. pairs_through c b.pairs mine) (ap (λ x. x.caller) room ∙ kept.caller)) ∙ mine-through 0 b.pairs mine (ap (λ x. are_mine 0 x.pairs) room ∙ kept.mine);
   }
 
 -- a block that has a name ended, and the name with it
 pub serves-free :
     (L : SessionLaws) (s : SessionView) (kept : IsKept s) (b t : Account) (lots : NamedLots) (word : List ℕ) (l : LotView) → HasMoreRoom s.book b
-    → lot_named s.lots word ≡ Some l → AreWith s.lots word None lots → IsFreed b l t → IsOrderly t
+    → lot_named s.lots word ≡ Some l → AreWith s.lots word None lots → Frees b s.rack.zone l (Ok tt) t → IsOrderly t
     → Serves s (Free (Base word)) answers.Done (record { rack = s.rack; book = t; lots = lots })
 serves-free L s kept b t lots word l room held with_it freed orderly =
     let u : SessionView = record { rack = s.rack; book = t; lots = lots } in
@@ -100,16 +104,16 @@ serves-free L s kept b t lots word l room held with_it freed orderly =
     let adds = freed.grows.adds in
     let block = block_of l in
     let hand_now : hand t ≡ drop_block block (hand s.book) =
-    hand-through-mine L s kept b t room mine freed.holds adds orderly ∙ L.dropped b.profile t.seen block mine (hand s.book) freed.dropped in
-    let counts : (c : Block) → count_of c (hand t) ≡ count_of c (blocks_named lots) = λ c.
-        let now = ap (count_of c) hand_now in
+    hand-through-mine L s kept b t room mine freed.holds adds orderly ∙ L.dropped b.profile t.seen block mine (hand s.book) freed.freed.1 in
+    let counts : (c : Block) → times c (hand t) ≡ times c (blocks_named lots) = λ c.
+        let now = ap (times c) hand_now in
         let old = kept.in_hand c in
         let once = kept.once c in
         let change = with_it.counted c in
         let found = ap (count_in c) held in
         elim (cases_Bool (same_block c block)) [
           | inl same ↦
-              let gone : count_of c (drop_block block (hand s.book)) ≡ 0 = ap (λ x. count_of x (drop_block block (hand s.book))) (same-is c block same) ∙ count-gone block (hand s.book) in
+              let gone : times c (drop_block block (hand s.book)) ≡ 0 = ap (λ x. times x (drop_block block (hand s.book))) (same-is c block same) ∙ count-gone block (hand s.book) in
               let one = one-true (same_block c block) same in
               omega (arith, now, old, once, change, found, gone, one)
           | inr other ↦
@@ -121,7 +125,7 @@ serves-free L s kept b t lots word l room held with_it freed orderly =
     let kept_now =
     kept-after L s kept b t room mine freed.holds adds orderly lots freed.nothing_held
     (of-space-with s.lots lots word None (IsOfSpace s.book.site) with_it (λ x none. absurd (none-some x none)) kept.of_space) counts in
-    let entries : IsDropped s.book.profile t.seen block mine = subst (λ p. IsDropped p t.seen block mine) (ap (λ x. x.profile) room) freed.dropped in
+    let entries : IsDropped s.book.profile t.seen block mine = subst (λ p. IsDropped p t.seen block mine) (ap (λ x. x.profile) room) freed.freed.1 in
     serves-by s u (Free (Base word)) answers.Done mine kept_now (same-profile L s kept b t room mine freed.holds adds orderly) (more-seen L s kept b t room mine freed.holds adds orderly)
     (of-caller L s kept b t room mine freed.holds adds orderly)
     (λ v stands.
@@ -149,7 +153,7 @@ in-hand s kept b room word l held =
 
 -- what holds of a session holds with more room in its book
 pub kept-with-room : (s : SessionView) → IsKept s → (b : Account) (lots : NamedLots) → HasMoreRoom s.book b
-    → ((w : List ℕ) → lot_named lots w ≡ lot_named s.lots w) → ((c : Block) → count_of c (blocks_named lots) ≡ count_of c (blocks_named s.lots))
+    → ((w : List ℕ) → lot_named lots w ≡ lot_named s.lots w) → ((c : Block) → times c (blocks_named lots) ≡ times c (blocks_named s.lots))
     → IsKept (record { rack = s.rack; book = b; lots = lots })
 kept-with-room s kept b lots room named counted = record {
   profile = kept.profile ∙ ap (λ x. x.profile) (sym room);
@@ -160,8 +164,9 @@ kept-with-room s kept b lots room named counted = record {
   zone_open = ap (λ x. is_open (state_of x) 0) room ∙ kept.zone_open;
   nothing_held = record { keepers = ap (λ x. x.held) room ∙ kept.nothing_held.keepers; lights = ap (λ x. x.lights) room ∙ kept.nothing_held.lights };
   of_space = λ w l at. subst (λ x. IsOfSpace x.site l) (sym room) (kept.of_space w l (sym (named w) ∙ at));
-  in_hand = λ c. ap (λ x. count_of c (hand x)) room ∙ kept.in_hand c ∙ sym (counted c);
-  once = λ c. let same = ap (λ x. count_of c (hand x)) room in let most = kept.once c in omega (arith, same, most);
+  in_hand = λ c. ap (λ x. times c (hand x)) room ∙ kept.in_hand c ∙ sym (counted c);
+  once = λ c. let same = ap (λ x. times c (hand x)) room in let most = kept.once c in omega (arith, same, most);
+  mine = ap (λ x. are_mine 0 x.pairs) room ∙ kept.mine;
 }
 
 -- the session stands for a standing with whatever book, and where names have the same lots
@@ -186,7 +191,7 @@ pub serves-not-held :
 serves-not-held s kept b lots word room none with_it =
     let u : SessionView = record { rack = s.rack; book = b; lots = lots } in
     let named = same-names s.lots lots word with_it none in
-    let counted : (c : Block) → count_of c (blocks_named lots) ≡ count_of c (blocks_named s.lots) = λ c.
+    let counted : (c : Block) → times c (blocks_named lots) ≡ times c (blocks_named s.lots) = λ c.
         let change = with_it.counted c in let nothing = ap (count_in c) none in omega (arith, change, nothing)
     in
     serves-by s u (Free (Base word)) answers.NotHeld [] (kept-with-room s kept b lots room named counted) (ap (λ x. x.profile) room)
@@ -196,7 +201,7 @@ serves-not-held s kept b lots word room none with_it =
         (with-none s (setting_of s u v) stands (Base word) (λ x. dropping (Base word) x) (ap (option_map block_of) none)) refl refl refl refl
         (stands-alike s u v named stands))
 
-block-case : (c b : Block) (hand : List Block) → count_of c (hand ++ b ∷ []) ≡ count_of c hand + one_for (same_block c b)
+block-case : (c b : Block) (hand : List Block) → times c (hand ++ b ∷ []) ≡ times c hand + one_for (same_block c b)
 block-case c b hand =
     let all = count-append c hand (b ∷ []) in
     let one = count-cons c b [] in
@@ -216,16 +221,16 @@ serves-malloc L s kept b t lots word n l room small free with_it asked orderly =
     let hand_now : hand t ≡ hand s.book ++ block ∷ [] =
     hand-through-mine L s kept b t room mine holds adds orderly
     ∙ L.served b.profile t.seen (request_of b.caller s.rack.zone n 16) mine (Some block) (hand s.book) asked.serves.served in
-    let counts : (c : Block) → count_of c (hand t) ≡ count_of c (blocks_named lots) = λ c.
-        let now = ap (count_of c) hand_now in
+    let counts : (c : Block) → times c (hand t) ≡ times c (blocks_named lots) = λ c.
+        let now = ap (times c) hand_now in
         let more = block-case c block (hand s.book) in
         let old = kept.in_hand c in
         let change = with_it.counted c in
         let nothing = ap (count_in c) free in
         omega (arith, now, more, old, change, nothing)
     in
-    let fresh_block : count_of block (blocks_named s.lots) ≡ 0 =
-        let now = ap (count_of block) hand_now in
+    let fresh_block : times block (blocks_named s.lots) ≡ 0 =
+        let now = ap (times block) hand_now in
         let more = block-case block block (hand s.book) in
         let one = one-true (same_block block block) (same-self block) in
         let once = hand-once t block orderly in
@@ -270,7 +275,7 @@ serves-null L s kept b t word n e room small free asked orderly =
     let hand_now : hand t ≡ hand s.book =
     hand-through-mine L s kept b t room mine holds adds orderly
     ∙ L.served b.profile t.seen (request_of b.caller s.rack.zone n 16) mine None (hand s.book) asked.serves.served ∙ append-nil (hand s.book) in
-    let kept_now = kept-after L s kept b t room mine holds adds orderly s.lots asked.nothing_held kept.of_space (λ c. ap (count_of c) hand_now ∙ kept.in_hand c) in
+    let kept_now = kept-after L s kept b t room mine holds adds orderly s.lots asked.nothing_held kept.of_space (λ c. ap (times c) hand_now ∙ kept.in_hand c) in
     let made : None ≡ first_made mine = L.made b.profile t.seen (request_of b.caller s.rack.zone n 16) mine None asked.serves.served in
     let request : ServesRequest s.book.profile t.seen (request_of 0 0 n 16) mine (first_made mine) =
         subst (λ o. ServesRequest s.book.profile t.seen (request_of 0 0 n 16) mine o) made
@@ -285,3 +290,16 @@ serves-null L s kept b t word n e room small free asked orderly =
         (task-serving s (setting_of s u v) stands word n (ap (option_map block_of) free)) (ap block_answer made) request refl
         (rising L s kept b t room mine holds adds orderly)
         (subst (λ o. StandsFor u (changed 0 (with_served (Base word) 0 o) v)) made (stands-unserved s u v stands word (λ w. refl))))
+
+-- the lot of a name can be freed
+pub freeable :
+    (s : SessionView) (kept : IsKept s) (b : Account) (room : HasMoreRoom s.book b) (word : List ℕ) (l : LotView) → lot_named s.lots word ≡ Some l → IsFreeable b l
+freeable s kept b room word l held =
+    let of_l = kept.of_space word l held in
+    let zones = ap (λ x. x.profile.zones) room ∙ kept.for_one.zones in
+    record {
+      in_hand = in-hand s kept b room word l held;
+      zone = let z = of_l.zone in omega (arith, z, zones);
+      zone_open = ap (λ x. is_open (state_of x) l.zone) room ∙ ap (λ z. is_open (state_of s.book) z) of_l.zone ∙ kept.zone_open;
+      space = of_l.space ∙ ap (λ x. x.site) (sym room);
+    }

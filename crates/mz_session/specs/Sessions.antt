@@ -1,6 +1,6 @@
 -- What contracts see of a session, the standing for which it stands, and when it serves a command. This project's own.
-use Rattle.std.specs.Prelude.{ℕ, ◌≡◌, ◌≤◌, true, List, [], ◌∷◌, ◌++◌, length, Some, IsTrue}
-use Rattle.std.specs.List.{AllByRecursion}
+use Rattle.std.specs.Prelude.{ℕ, ◌≡◌, ◌≤◌, ◌==◌, true, List, [], ◌∷◌, ◌++◌, length, Some, IsTrue}
+use Rattle.std.specs.List.{list_all, AllByRecursion}
 use Rattle.mz_base.specs.declared.profile.Profile.{Profile}
 use Rattle.mz_base.specs.Site.{Site}
 use Rattle.mz_base.specs.Space.{Block}
@@ -8,6 +8,7 @@ use Rattle.mz_events.specs.State.{is_open}
 use Rattle.mz_events.specs.declared.entry.Entry.{Entry}
 use Rattle.mz_words.specs.declared.name.Name.{Name}
 use Rattle.mz_trace.specs.declared.answer.Answer.{Answer}
+use Rattle.mz_trace.specs.declared.tail.Figures.{Figures}
 use Rattle.mz_trace.specs.declared.command.Command.{Command}
 use Rattle.mz_record.specs.Bytes.{is_shown_as}
 use Rattle.mz_fit.specs.Records.{LineRecord, call}
@@ -15,13 +16,12 @@ use Rattle.mz_fit.specs.Standing.{Caller, Standing, default_zone, caller_at, hel
 use Rattle.mz_fit.specs.Settings.{Setting}
 use Rattle.mz_fit.specs.Fitting.{FitsRecord}
 use Rattle.mz_fit.specs.After.{after_record}
-use Rattle.mz_record.specs.Dropped.{IsDropped}
-use Rattle.mz_book.specs.Growth.{Grows}
+use Rattle.mz_fit.specs.Tail.{listing_of, statistics_of}
 use Rattle.mz_book.specs.Account.{Account, HoldsNothing, state_of, hand}
 use Rattle.mz_rack.specs.declared.rack.Rack.{Rack}
 use Rattle.mz_rack.specs.Lots.{LotView}
 use Rattle.mz_session.specs.Names.{NamedLots, block_of, blocks_named, lot_named, block_named}
-use Rattle.mz_session.specs.Counts.{count_of}
+use Rattle.mz_book.specs.Living.{times}
 
 
 -- a space for one caller, of one zone, without nano
@@ -43,7 +43,7 @@ pub record IsOfSpace (x : Site) (l : LotView) : Type 0 where
   pub small : length l.span.bytes ≤ 32768
 
 -- What holds of a session between two commands. The rack is that of zone 0, nothing is held, and the blocks in the caller's hand
--- are just those of the lots that have names, each once.
+-- are just those of the lots that have names, each once; nobody else owns any.
 pub record IsKept (s : SessionView) : Type 0 where
   pub profile : s.rack.profile ≡ s.book.profile
   pub zone : s.rack.zone ≡ 0
@@ -53,8 +53,9 @@ pub record IsKept (s : SessionView) : Type 0 where
   pub zone_open : IsTrue (is_open (state_of s.book) 0)
   pub nothing_held : HoldsNothing s.book
   pub of_space : (word : List ℕ) (l : LotView) → lot_named s.lots word ≡ Some l → IsOfSpace s.book.site l
-  pub in_hand : (b : Block) → count_of b (hand s.book) ≡ count_of b (blocks_named s.lots)
-  pub once : (b : Block) → count_of b (hand s.book) ≤ 1
+  pub in_hand : (b : Block) → times b (hand s.book) ≡ times b (blocks_named s.lots)
+  pub once : (b : Block) → times b (hand s.book) ≤ 1
+  pub mine : IsTrue (list_all (λ h. h.caller == 0) s.book.pairs)
 
 -- the session before the first command
 pub record IsOpened (p : Profile) (s : SessionView) : Type 0 where
@@ -91,10 +92,8 @@ pub record Serves (s : SessionView) (command : Command) (answer : Answer) (t : S
   pub fits : (v : Standing) → StandsFor s v → FitsRecord (setting_of s t v) (record_of command entries answer)
   pub stands : (v : Standing) → StandsFor s v → StandsFor t (after_record (setting_of s t v) (record_of command entries answer))
 
--- (until `free` of the rack is there) the block of a lot ended: the record grew by just the entries that drop it, and nothing is held
-pub record IsFreed (s : Account) (l : LotView) (t : Account) : Type 0 where
-  pub mine : List Entry
-  pub holds : ℕ
-  pub grows : Grows s mine holds t
-  pub nothing_held : HoldsNothing t
-  pub dropped : IsDropped s.profile t.seen (block_of l) mine
+-- these are the figures behind what the session has served, whatever standing it stands for
+abbrev pub HasTail : SessionView → Figures → Type 0
+HasTail s figures =
+    (v : Standing) → StandsFor s v
+    → figures ≡ record { listing = listing_of v (state_of s.book); statistics = statistics_of s.book.profile (state_of s.book) }

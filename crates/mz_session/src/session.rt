@@ -1,13 +1,10 @@
 //! One caller's session.
 
-ghost use Rattle.std.specs.Prelude.{◌≡◌, ◌+◌, ◌≤◌, ◌↔◌, nat_le, length, take, drop, IsSome, IfSome, IfOk, IsTrue};
-ghost use Rattle.mz_base.specs.Lists.{has_block};
-ghost use Rattle.mz_book.specs.Account.{hand};
-ghost use Rattle.mz_rack.specs.Serving.{CanServe};
-ghost use Rattle.mz_session.specs.Names.{block_of};
+ghost use Rattle.std.specs.Prelude.{◌≡◌, ◌+◌, ◌≤◌, ◌↔◌, nat_le, length, take, drop, IsSome, IfSome, IfOk};
 ghost use Rattle.mz_base.specs.Limits.{IsWithinLimits};
+ghost use Rattle.mz_events.specs.History.{IsLawfulHistory};
 ghost use Rattle.mz_trace.specs.declared.command.Command.TheVariants as command;
-ghost use Rattle.mz_session.specs.Sessions.{IsForOne, IsOpened, IsKept, Serves, IsFreed};
+ghost use Rattle.mz_session.specs.Sessions.{IsForOne, IsOpened, IsKept, Serves, HasTail};
 
 use crate::laws::{of_book, of_sessions};
 use crate::listing::listing;
@@ -17,7 +14,7 @@ use mz_base::{Items, Profile};
 use mz_book::{Book, PlainBook};
 use mz_events::Entry;
 use mz_ground::Space;
-use mz_rack::{Keeper, Lot, Rack};
+use mz_rack::{Keeper, Rack};
 use mz_trace::{Answer, Figures};
 use mz_words::{BaseName, BlockName, Name, ShowCount, Shown};
 use std::alloc::{AllocError, Global};
@@ -118,9 +115,12 @@ impl Session {
         let Some(lot) = self.lots.remove(&base) else {
             return Ok(Answer::NotHeld);
         };
-        stub_free(rt, &self.rack, &mut self.book, lot);
+        let got = self.rack.free(rt, &mut self.book, lot);
         of_book(&self.book);
-        Ok(Answer::Done)
+        match got {
+            Ok(()) => Ok(Answer::Done),
+            Err(_not_live) => unreachable!(),
+        }
     }
 
     /// Makes all bytes of the block `byte`.
@@ -180,13 +180,20 @@ impl Session {
         Answer::Done
     }
 
-    /// What stands behind the run so far.
-    pub fn tail(&self, alloc: Global) -> Result<Figures, AllocError> {
+    /// What stands behind the run so far. Its history is a lawful one.
+    pub fn tail(&self, alloc: Global) -> Result<Figures, AllocError>
+        requires { IsKept self.now }
+        ensures lawful { IsLawfulHistory self.now.book.profile self.now.book.seen }
+        ensures tail { IfOk result (HasTail self.now) }
+    {
+        of_book(&self.book);
+        self.book.is_lawful();
+        self.book.keeps_rule();
         let blocks = self.lots.blocks(alloc)?;
         let listing = listing(alloc, &blocks)?;
         Ok(Figures {
             listing: Items::of(listing),
-            statistics: statistics(self.book.history()),
+            statistics: statistics(self.book.profile(), self.book.history()),
         })
     }
 }
@@ -210,15 +217,4 @@ fn bytes_at(bytes: &[u8], off: u64, count: ShowCount) -> Option<Shown>
     }
     let off = off as usize;
     Shown::new(&bytes[off..off + count])
-}
-
-// STUB
-fn stub_free<R: Wait>(_rt: &R, rack: &Rack, book: &mut PlainBook<Keeper>, lot: Lot)
-    requires can { CanServe (⟦<PlainBook<Keeper> as Book<Keeper>>⟧.account book.old) rack.now.profile rack.now.zone 36 }
-    requires mine { lot.zone ≡ rack.now.zone }
-    requires space { lot.span.space ≡ (⟦<PlainBook<Keeper> as Book<Keeper>>⟧.account book.old).site }
-    requires hand { IsTrue (has_block (hand (⟦<PlainBook<Keeper> as Book<Keeper>>⟧.account book.old)) (block_of lot)) }
-    ensures { IsFreed (⟦<PlainBook<Keeper> as Book<Keeper>>⟧.account book.old) lot (⟦<PlainBook<Keeper> as Book<Keeper>>⟧.account book.new) }
-{
-    let _ = (rack, book, lot);
 }

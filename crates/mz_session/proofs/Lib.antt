@@ -15,3 +15,4 @@ mod ServedLemmas
 mod OpenedLemmas
 mod ListingLemmas
 mod StatisticsLemmas
+mod TailLemmas

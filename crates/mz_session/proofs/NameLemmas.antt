@@ -1,5 +1,6 @@
 -- Names in an ordered map: a look-up by name is the map's own, and what a change of the map does to look-ups and counts.
 use Rattle.std.proofs.Common.{◌≡◌, ℕ, ◌+◌, ◌≤◌, Bool, true, false, cond, List, [], ◌∷◌, Option, Some, None, refl, ap, sym, subst, ◌∙◌, inl, inr, arith}
+use Rattle.std.specs.Prelude.{map}
 use Rattle.std.specs.Ordering.{nat_cmp, is_eq, match_ordering}
 use Rattle.std.specs.declared.cmp.Ordering.{Ordering}
 use Rattle.std.specs.declared.cmp.Ordering.TheVariants.{Less, Equal, Greater}
@@ -203,3 +204,8 @@ pub two-named :
 two-named [] v w b other this that = absurd (none-some b this)
 two-named (e ∷ es) v w b other this that =
     both-case v w e es b (bytes_eq v e.0) (bytes_eq w e.0) refl refl other (two-named es v w b other) this that
+
+-- the blocks of the lots are those of the names
+pub blocks-of-lots : (es : NamedLots) → map block_of (map (λ e. e.1) es) ≡ blocks_named es
+blocks-of-lots [] = refl
+blocks-of-lots (e ∷ es) = ap (λ bs. block_of e.1 ∷ bs) (blocks-of-lots es)

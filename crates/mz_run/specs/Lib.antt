@@ -1,5 +1,6 @@
 pub mod Built
 pub mod Turns
+pub mod RunLaws
 pub mod Passing
 pub mod Jobs
 pub mod Top

@@ -1,19 +1,24 @@
 //! From a trace to a run of it.
 
-ghost use Rattle.std.specs.Prelude.{◌≡◌, IfOk, IsTrue, map};
+ghost use Rattle.std.specs.Prelude.{◌≡◌, true, IfOk, OnOk, IsTrue, map};
 ghost use Rattle.std.specs.List.{list_all};
 ghost use Rattle.mz_fit.specs.LawfulRun.{IsLawfulRun};
 ghost use Rattle.mz_fit.specs.Tail.{tail_of};
 ghost use Rattle.mz_trace.specs.RunForms.{IsRun, IsTail};
 ghost use Rattle.mz_trace.specs.RunTexts.{round_of};
 ghost use Rattle.mz_trace.specs.Texts.{IsTrace};
-ghost use Rattle.mz_session.specs.Sessions.{Serves};
+ghost use Rattle.mz_trace.specs.RunForms.{step_fits};
+ghost use Rattle.mz_session.specs.Sessions.{IsKept, Serves};
+ghost use Rattle.mz_run.specs.RunLaws.{RunLaws};
 ghost use Rattle.mz_run.specs.Built.{IsBuilt, is_built_round, is_built_command};
 ghost use Rattle.mz_run.specs.Turns.{step_of, Turn, Turns, RoundTurns, RoundsTurn};
 
+use crate::told;
 use mz_base::Items;
 use mz_events::Entry;
+use mz_events::laws::entries::tickets_are_indices;
 use mz_io::Gate;
+use mz_record::laws::later_entries;
 use mz_session::Session;
 use mz_trace::{Answer, CallRecord, Command, Figures, Round, Run, RunRound, Step, Trace};
 use std::alloc::{AllocError, Global};
@@ -32,14 +37,25 @@ pub fn serve<R: Wait + Sync, G: Gate>(
     ensures tail { IfOk result (λ pair. pair.1 ≡ tail_of pair.0) }
     ensures has_text { IfOk result (λ pair. IsRun pair.0 × IsTail pair.1) }
 {
+    of_runs();
     let mut session = Session::open(alloc, &trace.profile)?;
     let rounds = serve_rounds(rt, alloc, &mut session, trace.rounds.as_slice(), gate)?;
     let figures = session.tail(alloc)?;
+    told::listing(figures.listing.as_slice());
+    told::numbers(figures.statistics);
     let run = Run {
         profile: trace.profile,
         rounds: Items::of(rounds),
     };
     Ok((run, figures))
+}
+
+// The laws of histories on which this rests hold, all together.
+fn of_runs()
+    ensures { RunLaws }
+{
+    tickets_are_indices();
+    later_entries();
 }
 
 // Serves rounds, one after another.
@@ -51,6 +67,8 @@ fn serve_rounds<R: Wait + Sync, G: Gate>(
     gate: &G,
 ) -> Result<Vec<RunRound>, AllocError>
     requires built { IsTrue (list_all is_built_round rounds.now) }
+    requires kept { IsKept session.old }
+    ensures kept { OnOk result (IsKept session.new) }
     ensures turns { IfOk result (λ rs. RoundsTurn session.old rs.items session.new) }
     ensures rounds { IfOk result (λ rs. map round_of rs.items ≡ rounds.now) }
 {
@@ -71,6 +89,8 @@ fn serve_round<R: Wait + Sync, G: Gate>(
     gate: &G,
 ) -> Result<RunRound, AllocError>
     requires built { IsTrue (is_built_round round.now) }
+    requires kept { IsKept session.old }
+    ensures kept { OnOk result (IsKept session.new) }
     ensures turns { IfOk result (λ r. RoundTurns session.old r session.new) }
     ensures round { IfOk result (λ r. round_of r ≡ round.now) }
 {
@@ -94,6 +114,8 @@ fn serve_commands<R: Wait + Sync, G: Gate>(
     gate: &G,
 ) -> Result<Vec<CallRecord>, AllocError>
     requires built { IsTrue (list_all is_built_command commands.now) }
+    requires kept { IsKept session.old }
+    ensures kept { OnOk result (IsKept session.new) }
     ensures turns { IfOk result (λ ds. Turns session.old ds.items session.new) }
     ensures commands { IfOk result (λ ds. map (λ d. d.command) ds.items ≡ commands.now) }
 {
@@ -114,11 +136,12 @@ fn serve_command<R: Wait>(
     command: &Command,
 ) -> Result<CallRecord, AllocError>
     requires built { IsTrue (is_built_command command.now) }
+    requires kept { IsKept session.old }
     ensures turn { IfOk result (λ d. Turn session.old d session.new) }
     ensures command { IfOk result (λ d. d.command ≡ command.now) }
 {
     let before = session.history().len();
-    let answer = answer_to(rt, session, command)?;
+    let answer = told::answer(answer_to(rt, session, command)?);
     let steps = steps_of(alloc, &session.history()[before..])?;
     Ok(CallRecord {
         command: *command,
@@ -134,6 +157,7 @@ fn answer_to<R: Wait>(
     command: &Command,
 ) -> Result<Answer, AllocError>
     requires built { IsTrue (is_built_command command.now) }
+    requires kept { IsKept session.old }
     ensures { IfOk result (λ answer. Serves session.old command.now answer session.new) }
 {
     match *command {
@@ -148,14 +172,17 @@ fn answer_to<R: Wait>(
 
 // Entries as a record has them.
 fn steps_of(alloc: Global, entries: &[Entry]) -> Result<Vec<Step>, AllocError>
-    ensures { IfOk result (λ steps. steps.items ≡ map step_of entries.now) }
+    ensures steps { IfOk result (λ steps. steps.items ≡ map step_of entries.now) }
+    ensures told { IfOk result (λ steps. list_all step_fits steps.items ≡ true) }
 {
     let mut steps = Vec::with_capacity(alloc, entries.len())?;
     for entry in entries {
-        steps.push(Step {
+        let step = Step {
             ticket: entry.ticket,
             event: entry.event,
-        })?;
+        };
+        told::step(step);
+        steps.push(step)?;
     }
     Ok(steps)
 }

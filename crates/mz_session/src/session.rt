@@ -2,7 +2,8 @@
 
 ghost use Rattle.std.specs.Prelude.{◌≡◌, ◌+◌, ◌≤◌, ◌↔◌, nat_le, length, take, drop, IsSome, IfSome, IfOk};
 ghost use Rattle.mz_base.specs.Limits.{IsWithinLimits};
-ghost use Rattle.mz_events.specs.History.{IsLawfulHistory};
+ghost use Rattle.mz_events.specs.State.{opening};
+ghost use Rattle.mz_events.specs.History.{AreLawful, IsLawfulHistory};
 ghost use Rattle.mz_trace.specs.declared.command.Command.TheVariants as command;
 ghost use Rattle.mz_session.specs.Sessions.{IsForOne, IsOpened, IsKept, Serves, HasTail};
 
@@ -183,6 +184,7 @@ impl Session {
     /// What stands behind the run so far. Its history is a lawful one.
     pub fn tail(&self, alloc: Global) -> Result<Figures, AllocError>
         requires { IsKept self.now }
+        ensures each { AreLawful self.now.book.profile opening self.now.book.seen }
         ensures lawful { IsLawfulHistory self.now.book.profile self.now.book.seen }
         ensures tail { IfOk result (HasTail self.now) }
     {

@@ -1,5 +1,5 @@
 -- What tests ask: after each request another one can be made.
-use Rattle.std.proofs.Common.{◌≡◌, ◌<◌, Bool, true, false, ℕ, List, [], ◌∷◌, ◌++◌, Option, Some, Ok, ap, sym, subst, ◌∙◌, refl, arith}
+use Rattle.std.proofs.Common.{◌≡◌, ◌<◌, ◌≤◌, Bool, true, false, ℕ, List, [], ◌∷◌, ◌++◌, Option, Some, Ok, ap, sym, subst, ◌∙◌, refl, arith}
 use Rattle.std.specs.Option.{option_to_list}
 use Rattle.std.specs.Prelude.{Result, ◌||◌}
 use Rattle.mz_base.specs.declared.profile.Profile.{Profile}
@@ -32,15 +32,15 @@ pub record HandLaws : Type 0 where
 
 -- what the tests ask of
 abbrev pub tested : ℕ → ℕ → Profile
-tested pages magazines = record { pages = pages; callers = 3; magazines = magazines; nano = 0; most_gen = 1; zones = 1 }
+tested pages nano = record { pages = pages; callers = 3; magazines = 1; nano = nano; most_gen = 1; zones = 1 }
 
-pub tested_limits : (pages magazines : ℕ) → IsFrom 1 16384 pages → IsFrom 1 16 magazines → IsWithinLimits (tested pages magazines)
-tested_limits pages magazines p m = record {
+pub tested_limits : (pages nano : ℕ) → IsFrom 1 16384 pages → IsFrom 0 1024 nano → nano ≤ pages → IsWithinLimits (tested pages nano)
+tested_limits pages nano p n within = record {
   pages = p;
   callers = (omega arith, omega arith);
-  magazines = m;
-  nano = (omega arith, omega arith);
-  nano_within = omega arith;
+  magazines = (omega arith, omega arith);
+  nano = n;
+  nano_within = within;
   most_gen = (omega arith, omega arith);
   zones = (omega arith, omega arith);
 }

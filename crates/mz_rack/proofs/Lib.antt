@@ -18,3 +18,4 @@ mod PuttingAside
 mod GivingBack
 mod Dropping
 mod Asked
+mod TwoZones

@@ -12,3 +12,4 @@ pub mod Stages
 pub mod Ending
 pub mod FreeStages
 pub mod BookLaws
+pub mod TwoZones

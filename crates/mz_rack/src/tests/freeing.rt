@@ -83,7 +83,7 @@ const ONE_BLOCK_TWICE: [Event; 7] = [
 #[tactic(auto)]
 #[test]
 fn a_block_that_was_freed_serves_the_next_request(rt: HostRuntime) -> Result<(), Fail> {
-    let (mut book, rack) = setting(rt.alloc(), 64, 1)?;
+    let (mut book, rack) = setting(rt.alloc(), 64, 0)?;
     for _ in 0..2 {
         let done = ask_and_free(&rt, &rack, &mut book, 40)?;
         assert!(rt; done);

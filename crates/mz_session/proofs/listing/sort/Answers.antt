@@ -6,5 +6,5 @@ use Rattle.mz_session.proofs.listing.sort.Goals as goal
 
 pub returns-clause-ascending : goal.returns-clause-ascending
 returns-clause-ascending c =
-    IsNonDecreasingBy-from_sort _ c.list.items
+    IsNonDecreasingBy-from_sort (λ (x : Listed). x.a) _
     (c.sort_unstable_by_key.ensures.sorted (λ (x : Listed). x.a) (always_returns_same _ (λ a r. r ≡ a.0.now.a) _ (λ a r f' k. search rules)))

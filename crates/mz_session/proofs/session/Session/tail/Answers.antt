@@ -45,6 +45,6 @@ returns-clause-tail c = λ v stands.
     let listed = c.in_ok-listing.ensures s.book.profile s.book.seen v limits kept.for_one lawful (subst (λ bs. AreLive bs (state_of s.book)) (sym blocks) live) stands.zones in
     let numbers = c.statistics.ensures
         ∙ (ap (λ p. statistics_of p (after_all p opening c.history.result.now)) c.profile.ensures
-        ∙ (ap (λ es. statistics_of _ (after_all _ opening es)) c.history.ensures
+        ∙ (ap (λ es. statistics_of c.self.inside.book.profile (after_all c.self.inside.book.profile opening es)) c.history.ensures
         ∙ ap (λ (x : SessionView). statistics_of x.book.profile (after_all x.book.profile opening x.book.seen)) c.self.view_is)) in
     ap (λ l. the l c.statistics.result) (c.of.ensures ∙ listed) ∙ ap (λ n. the (listing_of v (state_of s.book)) n) numbers

@@ -1,5 +1,5 @@
 -- What a trace text has whose lines are all built, and which line of a text is the first that isn't.
-use Rattle.std.proofs.Common.{◌≡◌, ◌∙◌, ◌<◌, ◌≤◌, ℕ, zero, suc, ◌+◌, ◌^◌, Bool, true, false, List, [], ◌∷◌, ◌++◌, map, length, Result, Ok, Err, Option, Some, None, refl, ap, sym, subst, arith, length-append, append-nil, append_assoc, eq-eqb, eqb-true, ltb-true, if◌then◌else◌}
+use Rattle.std.proofs.Common.{◌≡◌, ◌∙◌, ◌<◌, ◌≤◌, ℕ, zero, suc, ◌+◌, ◌^◌, Bool, true, false, List, [], ◌∷◌, ◌++◌, map, length, Result, Ok, Err, Option, Some, None, refl, ap, sym, subst, arith, length-append, append-nil, append_assoc, eq-eqb, ltb-true, if◌then◌else◌}
 use Rattle.std.specs.Prelude.{◌==◌, not, option_map}
 use Rattle.std.specs.List.{list_all, position, join_with_byte}
 use Rattle.std.proofs.lemmas.Bool.{and_parts}

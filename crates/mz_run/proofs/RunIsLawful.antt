@@ -1,7 +1,7 @@
 -- What turns make of a run: each record fits in its place in the whole run, which is lawful, and the session stands for what stands at
 -- its end.
-use Rattle.std.proofs.Common.{◌≡◌, ℕ, Bool, true, false, cond, List, [], ◌∷◌, ◌++◌, Option, Some, None, refl, ap, sym, subst, ◌∙◌, append_assoc}
-use Rattle.std.specs.Prelude.{IsTrue, map, Contains, fold}
+use Rattle.std.proofs.Common.{◌≡◌, ℕ, Bool, true, false, List, [], ◌∷◌, ◌++◌, Option, Some, None, refl, ap, sym, subst, ◌∙◌, append_assoc}
+use Rattle.std.specs.Prelude.{map, Contains, fold}
 use Rattle.std.specs.List.{flat_map, AllByRecursion}
 use Rattle.std.proofs.lemmas.Bool.{false≢true}
 use Rattle.std.proofs.lemmas.List.{append-nil}
@@ -11,27 +11,26 @@ use Rattle.mz_base.specs.declared.profile.Profile.{Profile}
 use Rattle.mz_base.specs.Space.{Block}
 use Rattle.mz_events.specs.declared.entry.Entry.{Entry}
 use Rattle.mz_events.specs.State.{State, opening}
-use Rattle.mz_events.specs.History.{AreLawful, after_all, by_ticket, IsLawfulHistory}
+use Rattle.mz_events.specs.History.{AreLawful, after_all, IsLawfulHistory}
 use Rattle.mz_words.specs.declared.name.Name.{Name}
 use Rattle.mz_words.specs.declared.name.Name.TheVariants as names
 use Rattle.mz_trace.specs.declared.answer.Answer.{Answer}
 use Rattle.mz_trace.specs.declared.answer.Answer.TheVariants as answers
 use Rattle.mz_trace.specs.declared.command.Command.{Command}
 use Rattle.mz_trace.specs.declared.command.Command.TheVariants.{Malloc, Free, Fill, Show, Link}
-use Rattle.mz_trace.specs.declared.run.Step.{Step}
 use Rattle.mz_trace.specs.declared.run.CallRecord.{CallRecord}
 use Rattle.mz_trace.specs.declared.run.RunRound.{RunRound}
 use Rattle.mz_trace.specs.declared.run.Run.{Run}
 use Rattle.mz_trace.specs.declared.trace.Trace.{Trace}
 use Rattle.mz_trace.specs.RunTexts.{round_of}
 use Rattle.mz_record.specs.Served.{first_made}
-use Rattle.mz_fit.specs.Records.{LineRecord, entry_by, call_record, call_records, entries_of_records, entries_of_round, entries_of}
-use Rattle.mz_fit.specs.Standing.{Caller, Standing, default_zone, first_standing, caller_at, zone_number, held_at, received, delivered}
+use Rattle.mz_fit.specs.Records.{entry_by, call_record, call_records, entries_of_records, entries_of_round, entries_of}
+use Rattle.mz_fit.specs.Standing.{Caller, Standing, first_standing, caller_at, zone_number, held_at, received, delivered}
 use Rattle.mz_fit.specs.Settings.{Setting}
-use Rattle.mz_fit.specs.Tasks.{Task, refused, serving, resizing, dropping, denying, telling, filling, showing, linking, giving, batching, unbatching, using, opening_zone, destroying_zone, refuse_if, in_zone, with_held, task_of, task_of_call}
+use Rattle.mz_fit.specs.Tasks.{Task, refused, serving, resizing, dropping, denying, telling, filling, showing, linking, giving, batching, unbatching, using, opening_zone, destroying_zone, refuse_if, in_zone, with_held}
 use Rattle.mz_fit.specs.Fitting.{AreEntries, FitsRecord}
 use Rattle.mz_fit.specs.After.{after_record}
-use Rattle.mz_fit.specs.LawfulRun.{Placed, placed, behind_all, placed_round, placed_rounds, after_rounds, IsLawfulRun, placed_records, last_standing}
+use Rattle.mz_fit.specs.LawfulRun.{Placed, placed, behind_all, placed_round, placed_rounds, after_rounds, IsLawfulRun, last_standing}
 use Rattle.mz_trace.specs.declared.tail.Figures.{Figures}
 use Rattle.mz_fit.specs.Tail.{listing_of, statistics_of, tail_of}
 use Rattle.mz_session.specs.Names.{block_named, lot_named}
@@ -181,17 +180,17 @@ module _ (L : RunLaws) (p : Profile) (h : List Entry) (lawful : AreLawful p open
       let seen : u.book.seen ≡ pre ++ es = served.seen ∙ (ap (λ l. l ++ served.entries) reached.seen ∙ ap (λ l. pre ++ l) (sym is)) in
       let amid : h ≡ (pre ++ es) ++ post = whole ∙ sym (append_assoc pre es post) in
       let fits_so : FitsRecord (setting_at p (pre ++ es) pre w) (record_of command es d.answer) =
-          subst (λ x. FitsRecord (setting_at p (pre ++ es) pre w) (record_of command x d.answer)) (sym is)
-          (subst (λ b. FitsRecord (setting_at p (pre ++ es) b w) (record_of command served.entries d.answer)) reached.seen
-          (subst (λ k. FitsRecord (setting_at p k v.book.seen w) (record_of command served.entries d.answer)) seen
-          (subst (λ q. FitsRecord (setting_at q u.book.seen v.book.seen w) (record_of command served.entries d.answer)) reached.profile
-          (served.fits w reached.stands)))) in
+      subst (λ x. FitsRecord (setting_at p (pre ++ es) pre w) (record_of command x d.answer)) (sym is)
+      (subst (λ b. FitsRecord (setting_at p (pre ++ es) b w) (record_of command served.entries d.answer)) reached.seen
+      (subst (λ k. FitsRecord (setting_at p k v.book.seen w) (record_of command served.entries d.answer)) seen
+      (subst (λ q. FitsRecord (setting_at q u.book.seen v.book.seen w) (record_of command served.entries d.answer)) reached.profile
+      (served.fits w reached.stands)))) in
       let stands_so : StandsFor u (after_record (setting_at p (pre ++ es) pre w) (record_of command es d.answer)) =
-          subst (λ x. StandsFor u (after_record (setting_at p (pre ++ es) pre w) (record_of command x d.answer))) (sym is)
-          (subst (λ b. StandsFor u (after_record (setting_at p (pre ++ es) b w) (record_of command served.entries d.answer))) reached.seen
-          (subst (λ k. StandsFor u (after_record (setting_at p k v.book.seen w) (record_of command served.entries d.answer))) seen
-          (subst (λ q. StandsFor u (after_record (setting_at q u.book.seen v.book.seen w) (record_of command served.entries d.answer))) reached.profile
-          (served.stands w reached.stands)))) in
+      subst (λ x. StandsFor u (after_record (setting_at p (pre ++ es) pre w) (record_of command x d.answer))) (sym is)
+      (subst (λ b. StandsFor u (after_record (setting_at p (pre ++ es) b w) (record_of command served.entries d.answer))) reached.seen
+      (subst (λ k. StandsFor u (after_record (setting_at p k v.book.seen w) (record_of command served.entries d.answer))) seen
+      (subst (λ q. StandsFor u (after_record (setting_at q u.book.seen v.book.seen w) (record_of command served.entries d.answer))) reached.profile
+      (served.stands w reached.stands)))) in
       record {
         fits = subst (λ k. FitsRecord (setting_at p k pre w) (call_record 0 d)) (sym amid)
             (still_fits L p pre es post w (subst (AreLawful p opening) amid lawful) command d.answer turn.built fits_so);

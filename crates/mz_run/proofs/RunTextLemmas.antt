@@ -1,10 +1,10 @@
 -- A run that turns made is one that has a text: its commands are those of the trace, and what is told has numbers that a line can have.
-use Rattle.std.proofs.Common.{◌≡◌, ℕ, ◌+◌, ◌≤◌, Bool, true, false, cond, List, [], ◌∷◌, ◌++◌, map, length, refl, ap, sym, subst, ◌∙◌, arith, append-nil}
-use Rattle.std.specs.Prelude.{◌&&◌, count_by}
+use Rattle.std.proofs.Common.{◌≡◌, ℕ, true, false, cond, List, [], ◌∷◌, ◌++◌, map, length, refl, ap, sym, subst, ◌∙◌, arith, append-nil}
+use Rattle.std.specs.Prelude.{count_by}
 use Rattle.std.specs.List.{flat_map, list_all}
 use Rattle.std.proofs.lemmas.Bool.{and_parts, and_from, false≢true}
 use Rattle.std.proofs.lemmas.List.{length-map}
-use Rattle.std.proofs.lemmas.List.Folds.{list_all-append, list_all-map}
+use Rattle.std.proofs.lemmas.List.Folds.{list_all-append}
 use Rattle.std.proofs.lemmas.List.Sums.{sum_by-append}
 use Rattle.mz_base.specs.Space.{Block}
 use Rattle.mz_events.specs.Places.{Spot, place_of}
@@ -29,7 +29,7 @@ use Rattle.mz_trace.specs.Answers.{answer_fits}
 use Rattle.mz_trace.specs.Texts.{IsTrace}
 use Rattle.mz_session.specs.Sessions.{SessionView}
 use Rattle.mz_run.specs.Built.{is_built_command, is_built_round, IsBuilt}
-use Rattle.mz_run.specs.Turns.{is_told, Turn, Turns, RoundTurns, RoundsTurn}
+use Rattle.mz_run.specs.Turns.{is_told, Turns, RoundsTurn}
 use Rattle.mz_run.proofs.BuiltLemmas.{built_numbers, rounds_built}
 use Rattle.mz_run.proofs.RunIsLawful.{round_with, round_is}
 

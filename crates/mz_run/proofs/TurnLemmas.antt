@@ -18,7 +18,7 @@ pub turn_made : (s t : SessionView) (command : Command) (a b : Answer) (steps : 
     → is_told (record { command = command; steps = steps; answer = a }) ≡ true → Turn s (record { command = command; steps = steps; answer = a }) t
 turn_made s t command a b steps built same served are told =
     let made : is_told (record { command = command; steps = steps; answer = b }) ≡ true → Turn s (record { command = command; steps = steps; answer = b }) t =
-        λ fits. record { built = built; told = fits; served = served; steps = are } in
+    λ fits. record { built = built; told = fits; served = served; steps = are } in
     subst (λ x. is_told (record { command = command; steps = steps; answer = x }) ≡ true → Turn s (record { command = command; steps = steps; answer = x }) t) (sym same) made told
 
 -- some turns, and then one more

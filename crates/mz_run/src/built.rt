@@ -48,10 +48,8 @@ fn is_built_command(command: &Command) -> bool
 {
     match command {
         Command::Malloc { n, .. } => *n <= MOST_ASKED,
-        Command::Free { .. }
-        | Command::Fill { .. }
-        | Command::Show { .. }
-        | Command::Link { .. } => true,
+        Command::Free { .. } | Command::Fill { .. } | Command::Show { .. } | Command::Link { .. } =>
+            true,
         _ => false,
     }
 }

@@ -65,4 +65,3 @@ fn outcome<R: Threads + Wait + Sync>(
     let status = mzone_main(rt, alloc, &words, &mut source, &mut sink, &OpenGate);
     Ok((status, sink.bytes().to_vec(alloc)?))
 }
-

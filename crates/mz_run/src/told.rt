@@ -38,7 +38,9 @@ fn place(k: Place)
             small(zone);
             small(mag);
         }
-        Place::TinyDepot { zone } | Place::SmallDepot { zone } | Place::Large { zone } => small(zone),
+        Place::TinyDepot { zone } | Place::SmallDepot { zone } | Place::Large { zone } => small(
+            zone,
+        ),
         Place::Pages | Place::Nano => {}
     }
 }

@@ -1,11 +1,10 @@
 -- What holds of a session between commands stays where bytes of a lot are written.
-use Rattle.std.proofs.Common.{◌≡◌, ℕ, ◌+◌, ◌≤◌, Bool, true, false, cond, List, [], ◌∷◌, ◌++◌, Option, Some, None, length, refl, ap, sym, subst, ◌∙◌, inl, inr, arith}
+use Rattle.std.proofs.Common.{◌≡◌, ℕ, true, false, cond, List, [], Option, Some, None, length, refl, ap, sym, subst, ◌∙◌, inl, inr, arith}
 use Rattle.std.specs.Prelude.{is_some, IsTrue}
 use Rattle.std.specs.Option.{option_map}
 use Rattle.std.specs.Str.{bytes_eq}
 use Rattle.std.proofs.lemmas.Bool.{cases_Bool, false≢true}
-use Rattle.mz_base.specs.Space.{Block, block_at, same_block}
-use Rattle.mz_events.specs.State.{is_open}
+use Rattle.mz_base.specs.Space.{block_at, same_block}
 use Rattle.mz_events.specs.Changes.{one_for}
 use Rattle.mz_trace.specs.declared.answer.Answer.{Answer}
 use Rattle.mz_trace.specs.declared.answer.Answer.TheVariants as answers
@@ -16,17 +15,15 @@ use Rattle.mz_fit.specs.Standing.{Standing, caller_at, knowing}
 use Rattle.mz_fit.specs.Tasks.{Task, task_of}
 use Rattle.mz_fit.specs.Fitting.{IsAnswer, AreEntries, are_bytes_shown}
 use Rattle.mz_fit.specs.After.{changed, after_task}
-use Rattle.mz_book.specs.Account.{Account, HoldsNothing, state_of, hand}
 use Rattle.mz_rack.specs.Lots.{LotView, with_lot_bytes}
-use Rattle.mz_session.specs.Names.{NamedLots, block_of, blocks_named, lot_named}
-use Rattle.mz_book.specs.Living.{times}
+use Rattle.mz_session.specs.Names.{NamedLots, block_of, lot_named}
 use Rattle.mz_session.specs.Counts.{count_in, AreWith}
 use Rattle.mz_session.specs.Sessions.{SessionView, IsOfSpace, IsKept, StandsFor, setting_of, record_of, Serves}
 use Rattle.mz_session.proofs.CountLemmas.{some-is}
 use Rattle.mz_session.proofs.RackLemmas.{names-apart}
 use Rattle.mz_session.proofs.ShownLemmas.{over-all}
 use Rattle.mz_session.proofs.StandsLemmas.{stands-written}
-use Rattle.mz_session.proofs.RecordLemmas.{Fits, fits-by, serves-quietly}
+use Rattle.mz_session.proofs.RecordLemmas.{fits-by, serves-quietly}
 
 pub option-none : {A B : Type 0} (f : A → B) (o : Option A) → is_some o ≡ false → option_map f o ≡ None
 option-none f None none = refl
@@ -108,9 +105,9 @@ serves-written s lots command word l ws task bs kept held many with_it is does s
     let m = with_lot_bytes l ws in
     serves-quietly s t command answers.Done (kept-written s lots word l ws kept held many with_it) refl
     (λ v stands.
-        let d = does v in
-        fits-by (setting_of s t v) (record_of command [] answers.Done) t (task v) (is v stands) d.0 d.1.0 (d.1.1.1 answers.Done) refl
-        (subst (StandsFor t) (sym d.1.1.0)
-        (stands-written s t v stands word l m (bs v) held (written-block l ws many) with_it
-        (λ w x other named. apart s kept w word x l other named held)
-        (subst (λ xs. is_shown_as (bs v) xs ≡ true) (sym (written-bytes l ws many)) (shown v stands)))))
+    let d = does v in
+    fits-by (setting_of s t v) (record_of command [] answers.Done) t (task v) (is v stands) d.0 d.1.0 (d.1.1.1 answers.Done) refl
+    (subst (StandsFor t) (sym d.1.1.0)
+    (stands-written s t v stands word l m (bs v) held (written-block l ws many) with_it
+    (λ w x other named. apart s kept w word x l other named held)
+    (subst (λ xs. is_shown_as (bs v) xs ≡ true) (sym (written-bytes l ws many)) (shown v stands)))))

@@ -1,7 +1,7 @@
 -- The live blocks of a space of one zone without nano, sorted by address, are its listing.
-use Rattle.std.proofs.Common.{◌≡◌, ℕ, zero, suc, ◌+◌, ◌<◌, ◌≤◌, ◌==◌, Bool, true, false, cond, List, [], ◌∷◌, map, filter, length, slice_index_or, arith, refl, ap, sym, subst, ◌∙◌, inl, inr}
-use Rattle.std.specs.Prelude.{◌&&◌, ◌||◌, ◌↔◌, ◌⊎◌, ◌%◌, nat_le, nat_lt, sum_by, find, Option, None, Some}
-use Rattle.std.specs.List.{All, Contains, list_any}
+use Rattle.std.proofs.Common.{◌≡◌, ℕ, suc, ◌+◌, ◌<◌, ◌≤◌, ◌==◌, Bool, true, false, cond, List, [], ◌∷◌, map, filter, length, slice_index_or, arith, refl, ap, sym, subst, ◌∙◌, inl, inr}
+use Rattle.std.specs.Prelude.{◌&&◌, ◌||◌, ◌⊎◌, ◌%◌, nat_le, nat_lt, sum_by, find, None, Some}
+use Rattle.std.specs.List.{All, Contains}
 use Rattle.std.specs.List.Sorted.{IsPermutation, IsNonDecreasingBy}
 use Rattle.std.proofs.lemmas.Bool.{cases_Bool, and_parts, and_from, false≢true}
 use Rattle.std.proofs.lemmas.Bool.Decides.{nat_tests}
@@ -10,7 +10,7 @@ use Rattle.std.proofs.lemmas.List.Elements.{All-head, All-tail, All-cons, Contai
 use Rattle.std.proofs.lemmas.List.Sorted.{IsPermutation-map, All-permutation, sum_by-IsPermutation}
 use Rattle.mz_base.specs.declared.profile.Profile.{Profile}
 use Rattle.mz_base.specs.Space.{Block, block_at, block_end, same_block}
-use Rattle.mz_base.specs.Lists.{insert_by, has_block, has_run}
+use Rattle.mz_base.specs.Lists.{insert_by, has_block}
 use Rattle.mz_base.specs.Sizes.{is_size, route_of}
 use Rattle.mz_base.specs.declared.range.Range.{Range}
 use Rattle.mz_base.specs.declared.range.Range.TheVariants as range
@@ -26,7 +26,7 @@ use Rattle.mz_events.specs.Separation.{InOrder, by_address, LiesAtHome}
 use Rattle.mz_record.specs.Listing.{range_of}
 use Rattle.mz_record.specs.Zones.{zone_at}
 use Rattle.mz_book.specs.Account.{is_live}
-use Rattle.mz_book.specs.Living.{times, blocks_of}
+use Rattle.mz_book.specs.Living.{times}
 use Rattle.mz_trace.specs.declared.tail.Listed.{Listed}
 use Rattle.mz_fit.specs.Standing.{Standing, default_zone, zone_name}
 use Rattle.mz_fit.specs.Tail.{listed, listing_of}

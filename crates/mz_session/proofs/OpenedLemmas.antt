@@ -1,5 +1,5 @@
 -- What holds of a session before its first command.
-use Rattle.std.proofs.Common.{◌≡◌, ℕ, true, [], refl, ap, sym, subst, ◌∙◌, arith}
+use Rattle.std.proofs.Common.{◌≡◌, true, [], refl, sym, subst, arith}
 use Rattle.std.proofs.lemmas.Option.{none-some}
 use Rattle.mz_base.specs.declared.profile.Profile.{Profile}
 use Rattle.mz_base.specs.Site.{Site}
@@ -9,7 +9,7 @@ use Rattle.mz_book.specs.Account.{Account}
 use Rattle.mz_book.specs.Plain.{opening_account}
 use Rattle.mz_rack.specs.declared.rack.Rack.{Rack}
 use Rattle.mz_session.specs.Names.{NamedLots}
-use Rattle.mz_session.specs.Sessions.{SessionView, IsForOne, IsKept, IsOpened}
+use Rattle.mz_session.specs.Sessions.{IsForOne, IsOpened}
 
 zone-open : (p : Profile) → is_open (after_all p opening []) 0 ≡ true
 unfolding after_all

@@ -1,25 +1,21 @@
 -- What a request of the rack leaves of what a session keeps.
-use Rattle.std.proofs.Common.{◌≡◌, ℕ, ◌+◌, ◌≤◌, Bool, true, false, cond, List, [], ◌∷◌, ◌++◌, Option, Some, None, length, refl, ap, sym, subst, ◌∙◌, inl, inr, arith}
-use Rattle.std.specs.Prelude.{◌==◌, filter, Result, Ok, Err, IsTrue}
+use Rattle.std.proofs.Common.{◌≡◌, ℕ, ◌≤◌, Bool, true, false, cond, List, [], ◌∷◌, ◌++◌, Some, refl, ap, sym, subst, ◌∙◌, inl, inr, arith}
+use Rattle.std.specs.Prelude.{◌==◌, IsTrue}
 use Rattle.std.specs.List.{AllByRecursion}
-use Rattle.std.specs.Option.{option_map, option_to_list}
+use Rattle.std.specs.Option.{option_map}
 use Rattle.std.specs.Str.{bytes_eq}
-use Rattle.std.proofs.lemmas.Bool.{cases_Bool, false≢true, eqb-true}
-use Rattle.mz_base.specs.declared.profile.Profile.{Profile}
+use Rattle.std.proofs.lemmas.Bool.{cases_Bool, eqb-true}
 use Rattle.mz_base.specs.Space.{Block, same_block}
-use Rattle.mz_base.specs.Lists.{has_block, drop_block}
 use Rattle.mz_events.specs.declared.entry.Entry.{Entry}
-use Rattle.mz_events.specs.State.{State, opening, is_open}
 use Rattle.mz_events.specs.Changes.{one_for}
 use Rattle.mz_events.specs.Hands.{own, hand_through}
 use Rattle.mz_book.specs.declared.pair.Pair.{Pair}
-use Rattle.mz_book.specs.Pairs.{hand_among, owners}
-use Rattle.mz_book.specs.Growth.{pairs_through, Adds, Grows}
-use Rattle.mz_book.specs.Account.{Account, IsOrderly, HoldsNothing, state_of, hand, is_live}
+use Rattle.mz_book.specs.Pairs.{hand_among}
+use Rattle.mz_book.specs.Growth.{pairs_through, Adds}
+use Rattle.mz_book.specs.Account.{Account, IsOrderly, state_of, hand, is_live}
 use Rattle.mz_session.specs.Names.{NamedLots, block_of, blocks_named, lot_named}
 use Rattle.mz_book.specs.Living.{times}
-use Rattle.mz_session.specs.Counts.{count_in}
-use Rattle.mz_session.proofs.CountLemmas.{same-is, same-self, count-append, hand-counted}
+use Rattle.mz_session.proofs.CountLemmas.{same-is, hand-counted}
 use Rattle.mz_session.proofs.NameLemmas.{one-named, two-named}
 
 own-case : (c : ℕ) (e : Entry) (es : List Entry) (d : Bool) → (e.caller == c) ≡ d → AllByRecursion (λ x. x.caller ≡ c) es → AllByRecursion (λ x. x.caller ≡ c) (cond d (e ∷ es) es)

@@ -1,6 +1,6 @@
 -- The record of a command that was served fits.
-use Rattle.std.proofs.Common.{◌≡◌, ℕ, ◌+◌, ◌≤◌, Bool, true, false, cond, List, [], ◌∷◌, ◌++◌, Option, Some, None, length, refl, ap, sym, subst, ◌∙◌, arith}
-use Rattle.std.specs.Prelude.{◌==◌, find, is_some, nat_lt, take, drop, IsTrue}
+use Rattle.std.proofs.Common.{◌≡◌, ℕ, true, List, [], ◌∷◌, ◌++◌, Option, Some, None, refl, ap, sym, subst, ◌∙◌}
+use Rattle.std.specs.Prelude.{find, is_some, IsTrue}
 use Rattle.std.specs.Option.{option_map}
 use Rattle.std.specs.Str.{bytes_eq}
 use Rattle.std.specs.List.{AllByRecursion}
@@ -13,14 +13,12 @@ use Rattle.mz_words.specs.declared.name.Name.TheVariants.{Base, Batch, Given}
 use Rattle.mz_trace.specs.declared.answer.Answer.{Answer}
 use Rattle.mz_trace.specs.declared.answer.Answer.TheVariants as answers
 use Rattle.mz_trace.specs.declared.command.Command.{Command}
-use Rattle.mz_trace.specs.declared.command.Command.TheVariants.{Malloc, Free, Fill, Show, Link}
-use Rattle.mz_record.specs.Served.{Serves as ServesRequest, first_made}
-use Rattle.mz_record.specs.Dropped.{IsDropped}
+use Rattle.mz_trace.specs.declared.command.Command.TheVariants.{Malloc}
 use Rattle.mz_fit.specs.Records.{LineRecord, caller_of, call}
-use Rattle.mz_fit.specs.Standing.{Caller, Standing, default_zone, caller_at, zone_number, held_at, is_held}
+use Rattle.mz_fit.specs.Standing.{Caller, Standing, default_zone, caller_at, zone_number, is_held}
 use Rattle.mz_fit.specs.Settings.{Setting, low}
-use Rattle.mz_fit.specs.Tasks.{Task, refused, serving, dropping, filling, showing, linking, in_zone, with_held, refuse_if, request_of, task_of}
-use Rattle.mz_fit.specs.Fitting.{block_answer, IsAnswer, AreEntries, are_bytes_shown, is_rising_from, FitsRecord}
+use Rattle.mz_fit.specs.Tasks.{Task, refused, serving, in_zone, with_held, request_of, task_of}
+use Rattle.mz_fit.specs.Fitting.{IsAnswer, AreEntries, are_bytes_shown, is_rising_from, FitsRecord}
 use Rattle.mz_fit.specs.After.{after_task, after_record}
 use Rattle.mz_session.specs.Names.{NamedLots, block_named}
 use Rattle.mz_session.specs.Sessions.{SessionView, IsKept, StandsFor, setting_of, record_of, Serves}

@@ -1,15 +1,12 @@
 -- A request that was served and a block that ended leave what holds of a session between commands, and their records fit.
-use Rattle.std.proofs.Common.{◌≡◌, ℕ, ◌+◌, ◌≤◌, Bool, true, false, cond, List, [], ◌∷◌, ◌++◌, Option, Some, None, Result, Ok, Err, length, refl, ap, sym, subst, ◌∙◌, inl, inr, arith}
-use Rattle.std.specs.Prelude.{IsTrue, slice_get}
+use Rattle.std.proofs.Common.{◌≡◌, ℕ, ◌+◌, ◌≤◌, true, List, [], ◌∷◌, ◌++◌, Some, None, Ok, Err, length, refl, ap, sym, subst, ◌∙◌, inl, inr, arith}
+use Rattle.std.specs.Prelude.{slice_get}
 use Rattle.std.specs.List.{AllByRecursion}
-use Rattle.std.specs.Option.{option_map, option_to_list}
-use Rattle.std.specs.Str.{bytes_eq}
+use Rattle.std.specs.Option.{option_map}
 use Rattle.std.proofs.lemmas.Bool.{cases_Bool}
 use Rattle.std.proofs.lemmas.List.{append-nil}
 use Rattle.std.proofs.lemmas.Option.{none-some}
-use Rattle.mz_base.specs.declared.profile.Profile.{Profile}
-use Rattle.mz_base.specs.Site.{Site}
-use Rattle.mz_base.specs.Space.{Block, block_at, same_block}
+use Rattle.mz_base.specs.Space.{Block, same_block}
 use Rattle.mz_base.specs.Lists.{has_block, drop_block}
 use Rattle.mz_events.specs.declared.entry.Entry.{Entry}
 use Rattle.mz_events.specs.State.{opening, is_open}
@@ -17,7 +14,6 @@ use Rattle.mz_events.specs.Changes.{one_for}
 use Rattle.mz_events.specs.Hands.{hand_through}
 use Rattle.mz_words.specs.declared.name.Name.{Name}
 use Rattle.mz_words.specs.declared.name.Name.TheVariants.{Base, Batch, Given}
-use Rattle.mz_trace.specs.declared.answer.Answer.{Answer}
 use Rattle.mz_trace.specs.declared.answer.Answer.TheVariants as answers
 use Rattle.mz_trace.specs.declared.command.Command.TheVariants.{Malloc, Free}
 use Rattle.mz_record.specs.Served.{events, first_made, Serves as ServesRequest}
@@ -106,21 +102,21 @@ serves-free L s kept b t lots word l room held with_it freed orderly =
     let hand_now : hand t ≡ drop_block block (hand s.book) =
     hand-through-mine L s kept b t room mine freed.holds adds orderly ∙ L.dropped b.profile t.seen block mine (hand s.book) freed.freed.1 in
     let counts : (c : Block) → times c (hand t) ≡ times c (blocks_named lots) = λ c.
-        let now = ap (times c) hand_now in
-        let old = kept.in_hand c in
-        let once = kept.once c in
-        let change = with_it.counted c in
-        let found = ap (count_in c) held in
-        elim (cases_Bool (same_block c block)) [
-          | inl same ↦
-              let gone : times c (drop_block block (hand s.book)) ≡ 0 = ap (λ x. times x (drop_block block (hand s.book))) (same-is c block same) ∙ count-gone block (hand s.book) in
-              let one = one-true (same_block c block) same in
-              omega (arith, now, old, once, change, found, gone, one)
-          | inr other ↦
-              let stays = count-others block c (hand s.book) other in
-              let zero = one-false (same_block c block) other in
-              omega (arith, now, old, change, found, stays, zero)
-        ]
+    let now = ap (times c) hand_now in
+    let old = kept.in_hand c in
+    let once = kept.once c in
+    let change = with_it.counted c in
+    let found = ap (count_in c) held in
+    elim (cases_Bool (same_block c block)) [
+      | inl same ↦
+          let gone : times c (drop_block block (hand s.book)) ≡ 0 = ap (λ x. times x (drop_block block (hand s.book))) (same-is c block same) ∙ count-gone block (hand s.book) in
+          let one = one-true (same_block c block) same in
+          omega (arith, now, old, once, change, found, gone, one)
+      | inr other ↦
+          let stays = count-others block c (hand s.book) other in
+          let zero = one-false (same_block c block) other in
+          omega (arith, now, old, change, found, stays, zero)
+    ]
     in
     let kept_now =
     kept-after L s kept b t room mine freed.holds adds orderly lots freed.nothing_held
@@ -129,10 +125,10 @@ serves-free L s kept b t lots word l room held with_it freed orderly =
     serves-by s u (Free (Base word)) answers.Done mine kept_now (same-profile L s kept b t room mine freed.holds adds orderly) (more-seen L s kept b t room mine freed.holds adds orderly)
     (of-caller L s kept b t room mine freed.holds adds orderly)
     (λ v stands.
-        fits-by (setting_of s u v) (record_of (Free (Base word)) mine answers.Done) u (dropping (Base word) block)
-        (with-some s (setting_of s u v) stands (Base word) (λ x. dropping (Base word) x) block (ap (option_map block_of) held)) refl entries refl
-        (rising L s kept b t room mine freed.holds adds orderly)
-        (stands-dropped s u v stands word l with_it (λ w m other named. apart s kept w word m l other named held)))
+    fits-by (setting_of s u v) (record_of (Free (Base word)) mine answers.Done) u (dropping (Base word) block)
+    (with-some s (setting_of s u v) stands (Base word) (λ x. dropping (Base word) x) block (ap (option_map block_of) held)) refl entries refl
+    (rising L s kept b t room mine freed.holds adds orderly)
+    (stands-dropped s u v stands word l with_it (λ w m other named. apart s kept w word m l other named held)))
 
 -- a book with more room can serve, and has the block of each named lot in its hand
 pub can-serve : (s : SessionView) → IsKept s → (b : Account) → HasMoreRoom s.book b → (n : ℕ) → n ≤ b.spare → CanServe b s.rack.profile s.rack.zone n
@@ -192,14 +188,14 @@ serves-not-held s kept b lots word room none with_it =
     let u : SessionView = record { rack = s.rack; book = b; lots = lots } in
     let named = same-names s.lots lots word with_it none in
     let counted : (c : Block) → times c (blocks_named lots) ≡ times c (blocks_named s.lots) = λ c.
-        let change = with_it.counted c in let nothing = ap (count_in c) none in omega (arith, change, nothing)
+    let change = with_it.counted c in let nothing = ap (count_in c) none in omega (arith, change, nothing)
     in
     serves-by s u (Free (Base word)) answers.NotHeld [] (kept-with-room s kept b lots room named counted) (ap (λ x. x.profile) room)
     (ap (λ x. x.seen) room ∙ sym (append-nil s.book.seen)) tt
     (λ v stands.
-        fits-by (setting_of s u v) (record_of (Free (Base word)) [] answers.NotHeld) u (refused answers.NotHeld)
-        (with-none s (setting_of s u v) stands (Base word) (λ x. dropping (Base word) x) (ap (option_map block_of) none)) refl refl refl refl
-        (stands-alike s u v named stands))
+    fits-by (setting_of s u v) (record_of (Free (Base word)) [] answers.NotHeld) u (refused answers.NotHeld)
+    (with-none s (setting_of s u v) stands (Base word) (λ x. dropping (Base word) x) (ap (option_map block_of) none)) refl refl refl refl
+    (stands-alike s u v named stands))
 
 block-case : (c b : Block) (hand : List Block) → times c (hand ++ b ∷ []) ≡ times c hand + one_for (same_block c b)
 block-case c b hand =
@@ -222,20 +218,20 @@ serves-malloc L s kept b t lots word n l room small free with_it asked orderly =
     hand-through-mine L s kept b t room mine holds adds orderly
     ∙ L.served b.profile t.seen (request_of b.caller s.rack.zone n 16) mine (Some block) (hand s.book) asked.serves.served in
     let counts : (c : Block) → times c (hand t) ≡ times c (blocks_named lots) = λ c.
-        let now = ap (times c) hand_now in
-        let more = block-case c block (hand s.book) in
-        let old = kept.in_hand c in
-        let change = with_it.counted c in
-        let nothing = ap (count_in c) free in
-        omega (arith, now, more, old, change, nothing)
+    let now = ap (times c) hand_now in
+    let more = block-case c block (hand s.book) in
+    let old = kept.in_hand c in
+    let change = with_it.counted c in
+    let nothing = ap (count_in c) free in
+    omega (arith, now, more, old, change, nothing)
     in
     let fresh_block : times block (blocks_named s.lots) ≡ 0 =
-        let now = ap (times block) hand_now in
-        let more = block-case block block (hand s.book) in
-        let one = one-true (same_block block block) (same-self block) in
-        let once = hand-once t block orderly in
-        let old = kept.in_hand block in
-        omega (arith, now, more, one, once, old)
+    let now = ap (times block) hand_now in
+    let more = block-case block block (hand s.book) in
+    let one = one-true (same_block block block) (same-self block) in
+    let once = hand-once t block orderly in
+    let old = kept.in_hand block in
+    omega (arith, now, more, one, once, old)
     in
     let of_l : IsOfSpace s.book.site l = record {
       zone = asked.answer.0 ∙ kept.zone;
@@ -247,20 +243,20 @@ serves-malloc L s kept b t lots word n l room small free with_it asked orderly =
     (of-space-with s.lots lots word (Some l) (IsOfSpace s.book.site) with_it (λ x is. subst (IsOfSpace s.book.site) (some-is l x is) of_l) kept.of_space) counts in
     let made : Some block ≡ first_made mine = L.made b.profile t.seen (request_of b.caller s.rack.zone n 16) mine (Some block) asked.serves.served in
     let request : ServesRequest s.book.profile t.seen (request_of 0 0 n 16) mine (first_made mine) =
-        subst (λ o. ServesRequest s.book.profile t.seen (request_of 0 0 n 16) mine o) made
-        (subst (λ z. ServesRequest s.book.profile t.seen (request_of 0 z n 16) mine (Some block)) kept.zone
-        (subst (λ c. ServesRequest s.book.profile t.seen (request_of c s.rack.zone n 16) mine (Some block)) (ap (λ x. x.caller) room ∙ kept.caller)
-        (subst (λ p. ServesRequest p t.seen (request_of b.caller s.rack.zone n 16) mine (Some block)) (ap (λ x. x.profile) room) asked.serves)))
+    subst (λ o. ServesRequest s.book.profile t.seen (request_of 0 0 n 16) mine o) made
+    (subst (λ z. ServesRequest s.book.profile t.seen (request_of 0 z n 16) mine (Some block)) kept.zone
+    (subst (λ c. ServesRequest s.book.profile t.seen (request_of c s.rack.zone n 16) mine (Some block)) (ap (λ x. x.caller) room ∙ kept.caller)
+    (subst (λ p. ServesRequest p t.seen (request_of b.caller s.rack.zone n 16) mine (Some block)) (ap (λ x. x.profile) room) asked.serves)))
     in
     serves-by s u (Malloc word n) (answers.Block block.first block.size) mine kept_now (same-profile L s kept b t room mine holds adds orderly) (more-seen L s kept b t room mine holds adds orderly)
     (of-caller L s kept b t room mine holds adds orderly)
     (λ v stands.
-        fits-by (setting_of s u v) (record_of (Malloc word n) mine (answers.Block block.first block.size)) u (serving (Base word) (request_of 0 0 n 16) 0)
-        (task-serving s (setting_of s u v) stands word n (ap (option_map block_of) free)) (ap block_answer made) request refl
-        (rising L s kept b t room mine holds adds orderly)
-        (subst (λ o. StandsFor u (changed 0 (with_served (Base word) 0 o) v)) made
-        (stands-served s u v stands word l with_it
-        (λ w m named. no-name s.lots w (block_of m) block fresh_block (ap (option_map block_of) named)) (L.unknown l.span.bytes))))
+    fits-by (setting_of s u v) (record_of (Malloc word n) mine (answers.Block block.first block.size)) u (serving (Base word) (request_of 0 0 n 16) 0)
+    (task-serving s (setting_of s u v) stands word n (ap (option_map block_of) free)) (ap block_answer made) request refl
+    (rising L s kept b t room mine holds adds orderly)
+    (subst (λ o. StandsFor u (changed 0 (with_served (Base word) 0 o) v)) made
+    (stands-served s u v stands word l with_it
+    (λ w m named. no-name s.lots w (block_of m) block fresh_block (ap (option_map block_of) named)) (L.unknown l.span.bytes))))
 
 -- none was served
 pub serves-null :
@@ -278,18 +274,18 @@ serves-null L s kept b t word n e room small free asked orderly =
     let kept_now = kept-after L s kept b t room mine holds adds orderly s.lots asked.nothing_held kept.of_space (λ c. ap (times c) hand_now ∙ kept.in_hand c) in
     let made : None ≡ first_made mine = L.made b.profile t.seen (request_of b.caller s.rack.zone n 16) mine None asked.serves.served in
     let request : ServesRequest s.book.profile t.seen (request_of 0 0 n 16) mine (first_made mine) =
-        subst (λ o. ServesRequest s.book.profile t.seen (request_of 0 0 n 16) mine o) made
-        (subst (λ z. ServesRequest s.book.profile t.seen (request_of 0 z n 16) mine None) kept.zone
-        (subst (λ c. ServesRequest s.book.profile t.seen (request_of c s.rack.zone n 16) mine None) (ap (λ x. x.caller) room ∙ kept.caller)
-        (subst (λ p. ServesRequest p t.seen (request_of b.caller s.rack.zone n 16) mine None) (ap (λ x. x.profile) room) asked.serves)))
+    subst (λ o. ServesRequest s.book.profile t.seen (request_of 0 0 n 16) mine o) made
+    (subst (λ z. ServesRequest s.book.profile t.seen (request_of 0 z n 16) mine None) kept.zone
+    (subst (λ c. ServesRequest s.book.profile t.seen (request_of c s.rack.zone n 16) mine None) (ap (λ x. x.caller) room ∙ kept.caller)
+    (subst (λ p. ServesRequest p t.seen (request_of b.caller s.rack.zone n 16) mine None) (ap (λ x. x.profile) room) asked.serves)))
     in
     serves-by s u (Malloc word n) answers.Null mine kept_now (same-profile L s kept b t room mine holds adds orderly) (more-seen L s kept b t room mine holds adds orderly)
     (of-caller L s kept b t room mine holds adds orderly)
     (λ v stands.
-        fits-by (setting_of s u v) (record_of (Malloc word n) mine answers.Null) u (serving (Base word) (request_of 0 0 n 16) 0)
-        (task-serving s (setting_of s u v) stands word n (ap (option_map block_of) free)) (ap block_answer made) request refl
-        (rising L s kept b t room mine holds adds orderly)
-        (subst (λ o. StandsFor u (changed 0 (with_served (Base word) 0 o) v)) made (stands-unserved s u v stands word (λ w. refl))))
+    fits-by (setting_of s u v) (record_of (Malloc word n) mine answers.Null) u (serving (Base word) (request_of 0 0 n 16) 0)
+    (task-serving s (setting_of s u v) stands word n (ap (option_map block_of) free)) (ap block_answer made) request refl
+    (rising L s kept b t room mine holds adds orderly)
+    (subst (λ o. StandsFor u (changed 0 (with_served (Base word) 0 o) v)) made (stands-unserved s u v stands word (λ w. refl))))
 
 -- the lot of a name can be freed
 pub freeable :

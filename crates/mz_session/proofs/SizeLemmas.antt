@@ -1,5 +1,5 @@
 -- A request for at most 32,768 bytes is served by a block of no more.
-use Rattle.std.proofs.Common.{◌≡◌, ℕ, ◌≤◌, ◌*◌, List, Option, Some, None, refl, ap, sym, subst, ◌∙◌, cond, Bool, false, arith}
+use Rattle.std.proofs.Common.{◌≡◌, ℕ, ◌≤◌, List, Some, ap, sym, cond, Bool, false, arith}
 use Rattle.std.proofs.lemmas.Bool.Decides.{nat_tests}
 use Rattle.std.proofs.lemmas.Option.{none-some}
 use Rattle.std.proofs.lemmas.Bool.{le-leb, false≢true}

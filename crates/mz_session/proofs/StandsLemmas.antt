@@ -1,21 +1,19 @@
 -- The session stands for what a record leaves.
-use Rattle.std.proofs.Common.{◌≡◌, ℕ, Bool, true, false, cond, List, [], ◌∷◌, Option, Some, None, length, refl, ap, sym, subst, ◌∙◌, inl, inr}
-use Rattle.std.specs.Prelude.{find, replicate, is_some}
+use Rattle.std.proofs.Common.{◌≡◌, ℕ, true, false, cond, List, [], Option, Some, None, length, refl, ap, sym, subst, ◌∙◌, inl, inr}
 use Rattle.std.specs.Option.{option_map}
 use Rattle.std.specs.Str.{bytes_eq}
 use Rattle.std.proofs.lemmas.Bool.{cases_Bool}
 use Rattle.std.proofs.lemmas.Option.{none-some}
-use Rattle.std.proofs.lemmas.Slice.Eq.{bytes_eq-Decides}
-use Rattle.mz_base.specs.Space.{Block, same_block}
+use Rattle.mz_base.specs.Space.{same_block}
 use Rattle.mz_words.specs.declared.name.Name.{Name}
 use Rattle.mz_words.specs.declared.name.Name.TheVariants.{Base, Batch, Given}
-use Rattle.mz_record.specs.Bytes.{Bytes, fresh, cleared, filled, linked, is_shown_as}
+use Rattle.mz_record.specs.Bytes.{Bytes, fresh, is_shown_as}
 use Rattle.mz_fit.specs.Names.{same_name}
-use Rattle.mz_fit.specs.Standing.{Holding, Caller, Standing, default_zone, first_standing, caller_at, held_at, bytes_of, with_name, without_name, forgetting, knowing}
+use Rattle.mz_fit.specs.Standing.{Holding, Caller, Standing, first_standing, caller_at, held_at, bytes_of, with_name, without_name, knowing}
 use Rattle.mz_fit.specs.After.{changed, with_served, without_block}
-use Rattle.mz_rack.specs.Lots.{LotView, with_lot_bytes}
-use Rattle.mz_session.specs.Names.{NamedLots, block_of, lot_named, block_named}
-use Rattle.mz_session.specs.Counts.{AreWith, written}
+use Rattle.mz_rack.specs.Lots.{LotView}
+use Rattle.mz_session.specs.Names.{block_of, lot_named, block_named}
+use Rattle.mz_session.specs.Counts.{AreWith}
 use Rattle.mz_session.specs.Sessions.{SessionView, StandsFor}
 use Rattle.mz_session.proofs.CountLemmas.{some-is}
 use Rattle.mz_session.proofs.HeldLemmas.{held-first, held-forgotten, given-names, forgotten-names, kept-names}

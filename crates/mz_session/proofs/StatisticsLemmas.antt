@@ -1,8 +1,8 @@
 -- The statistics after one more entry of a history: what is made and ended, and the pages that are taken and given back.
-use Rattle.std.proofs.Common.{◌≡◌, ℕ, ◌+◌, ◌-◌, ◌*◌, ◌<◌, ◌≤◌, ◌^◌, Bool, true, false, cond, not, List, [], ◌∷◌, ◌++◌, filter, ◌==◌, length, take, drop, slice_index_or, arith, refl, ap, sym, subst, ◌∙◌, inl, inr}
-use Rattle.std.specs.Prelude.{◌&&◌, ◌||◌, ◌↔◌, ◌⊎◌, sum_by, nat_lt, max}
-use Rattle.std.specs.List.{list_any, All}
-use Rattle.std.proofs.lemmas.Bool.{cases_Bool, and_parts, and_from, false≢true}
+use Rattle.std.proofs.Common.{◌≡◌, ℕ, ◌+◌, ◌-◌, ◌*◌, ◌<◌, ◌≤◌, Bool, true, false, cond, not, List, [], ◌∷◌, ◌++◌, ◌==◌, length, take, drop, slice_index_or, arith, refl, ap, sym, subst, ◌∙◌, inl, inr}
+use Rattle.std.specs.Prelude.{◌||◌, ◌⊎◌, sum_by, nat_lt, max}
+use Rattle.std.specs.List.{All}
+use Rattle.std.proofs.lemmas.Bool.{cases_Bool, and_parts, false≢true}
 use Rattle.std.proofs.lemmas.Bool.Decides.{nat_tests}
 use Rattle.std.proofs.lemmas.List.{take_more, take-append-drop}
 use Rattle.std.proofs.lemmas.List.Sums.{sum_by-cons}
@@ -18,13 +18,11 @@ use Rattle.mz_events.specs.declared.entry.Entry.{Entry}
 use Rattle.mz_events.specs.declared.event.Event.{Event}
 use Rattle.mz_events.specs.declared.event.Event.TheVariants.{Take, Back, Move, New, End, Size, Full, Dry, No, Open, Shut}
 use Rattle.mz_events.specs.Places.{Spot, same_spot, spot_of, spot_at}
-use Rattle.mz_events.specs.State.{State, opening, look_up, value_at, kept_at, live_blocks, live_size}
-use Rattle.mz_events.specs.Effect.{touches, value_after, kept_after, after}
+use Rattle.mz_events.specs.State.{State, opening, look_up, kept_at, live_blocks, live_size}
+use Rattle.mz_events.specs.Effect.{touches, kept_after, after}
 use Rattle.mz_events.specs.Rules.{Fits}
-use Rattle.mz_events.specs.History.{IsLawful, AreLawful, after_entry, after_all}
-use Rattle.mz_events.specs.Fitting.{FitsByEvent}
-use Rattle.mz_events.specs.Sameness.{IsOnce, IsBySpot}
-use Rattle.mz_events.specs.Separation.{InOrder, by_address, IsSeparate, IsAscending}
+use Rattle.mz_events.specs.History.{AreLawful, after_all}
+use Rattle.mz_events.specs.Separation.{InOrder, by_address}
 use Rattle.mz_events.specs.Bounds.{LiveBytesFit, RunsFit}
 use Rattle.mz_record.specs.Listing.{size_allocated}
 use Rattle.mz_book.specs.Living.{made_by, ended_by, SumsAfter}

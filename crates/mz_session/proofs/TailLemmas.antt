@@ -1,8 +1,6 @@
 -- The named lots are just the live blocks.
-use Rattle.std.proofs.Common.{◌≡◌, ap, sym, ◌∙◌}
-use Rattle.mz_base.specs.Space.{Block}
-use Rattle.mz_events.specs.Changes.{one_for}
-use Rattle.mz_book.specs.Account.{state_of, is_live}
+use Rattle.std.proofs.Common.{ap, sym, ◌∙◌}
+use Rattle.mz_book.specs.Account.{state_of}
 use Rattle.mz_book.specs.Rule.{KeepsRule}
 use Rattle.mz_book.specs.Pairs.{hand_among}
 use Rattle.mz_book.specs.Living.{times}

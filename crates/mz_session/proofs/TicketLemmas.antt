@@ -1,8 +1,7 @@
 -- Entries whose tickets are their indices: those behind others rise above them.
-use Rattle.std.proofs.Common.{◌≡◌, ℕ, suc, ◌+◌, ◌≤◌, true, List, [], ◌∷◌, ◌++◌, Some, length, max, refl, sym, subst, ◌∙◌, arith}
+use Rattle.std.proofs.Common.{◌≡◌, ℕ, suc, ◌+◌, true, List, [], ◌∷◌, ◌++◌, Some, length, max, refl, sym, subst, arith}
 use Rattle.std.specs.Prelude.{nat_le, slice_get}
 use Rattle.std.proofs.lemmas.Bool.{and_from, le-leb}
-use Rattle.mz_base.specs.declared.profile.Profile.{Profile}
 use Rattle.mz_events.specs.declared.entry.Entry.{Entry}
 use Rattle.mz_fit.specs.Settings.{above}
 use Rattle.mz_fit.specs.Fitting.{is_rising_from}

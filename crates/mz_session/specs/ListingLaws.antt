@@ -1,5 +1,5 @@
 -- The laws of histories on which the listing rests, together.
-use Rattle.std.specs.Prelude.{◌≡◌, ℕ, ◌<◌, List, map, IsTrue}
+use Rattle.std.specs.Prelude.{◌≡◌, ◌<◌, List, map, IsTrue}
 use Rattle.mz_base.specs.declared.profile.Profile.{Profile}
 use Rattle.mz_base.specs.Space.{Block, Run}
 use Rattle.mz_base.specs.Lists.{has_run, has_block}

@@ -12,7 +12,7 @@ use Rattle.mz_trace.specs.declared.tail.Figures.{Figures}
 use Rattle.mz_trace.specs.declared.command.Command.{Command}
 use Rattle.mz_record.specs.Bytes.{is_shown_as}
 use Rattle.mz_fit.specs.Records.{LineRecord, call}
-use Rattle.mz_fit.specs.Standing.{Caller, Standing, default_zone, caller_at, held_at, bytes_of}
+use Rattle.mz_fit.specs.Standing.{Standing, default_zone, caller_at, held_at, bytes_of}
 use Rattle.mz_fit.specs.Settings.{Setting}
 use Rattle.mz_fit.specs.Fitting.{FitsRecord}
 use Rattle.mz_fit.specs.After.{after_record}
@@ -22,7 +22,6 @@ use Rattle.mz_rack.specs.declared.rack.Rack.{Rack}
 use Rattle.mz_rack.specs.Lots.{LotView}
 use Rattle.mz_session.specs.Names.{NamedLots, block_of, blocks_named, lot_named, block_named}
 use Rattle.mz_book.specs.Living.{times}
-
 
 -- a space for one caller, of one zone, without nano
 pub record IsForOne (p : Profile) : Type 0 where

@@ -15,9 +15,9 @@ ghost use Rattle.mz_session.specs.Sessions.{IsForOne};
 ghost use Rattle.mz_session.specs.Counts.{AreLive};
 
 use crate::block::Block;
+use mz_base::{ZoneName, route};
 use mz_book::laws::live::{live_blocks_stand_once, runs_are_in_zones};
 use mz_events::laws::{separation, states};
-use mz_base::{ZoneName, route};
 use mz_trace::Listed;
 use std::alloc::{AllocError, Global};
 

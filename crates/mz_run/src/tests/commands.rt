@@ -159,4 +159,3 @@ fn commands_of_one_round(rt: HostRuntime) -> Result<(), Fail> {
     ];
     check_rows(&rt, rt.alloc(), rows.as_slice())
 }
-

@@ -164,4 +164,3 @@ fn a_longer_input_keeps_its_rest(rt: HostRuntime) -> Result<(), Fail> {
     assert_eq!(rt; source.read(&mut rest), Ok(10));
     Ok(())
 }
-

@@ -98,7 +98,10 @@ fn threshold_and_empty_depot_region(rt: HostRuntime) -> Result<(), Fail> {
             writeln!(run, "{} take 0t0 {page} 64", ticket + 2)?;
             ticket += 3;
         }
-        writeln!(run, "{ticket} new 0t0 {address} 512 16\n= block {address} 512")?;
+        writeln!(
+            run,
+            "{ticket} new 0t0 {address} 512 16\n= block {address} 512"
+        )?;
         ticket += 1;
     }
     for i in (0..2_047u64).chain(2_048..4_096) {

@@ -48,7 +48,10 @@ fn lines_that_are_not_built(rt: HostRuntime) -> Result<(), Fail> {
         ("round\ndestroy default\n", 4),
         ("round\nsize default 0\n", 4),
         ("round\nwhere 0\n", 4),
-        ("round\nround\n0 free a\n0 fill a 1\n0 show a 0 1\n0 link a 0 a\n0 malloc a 32768\n0 size a\n0 malloc a 32769\n", 10),
+        (
+            "round\nround\n0 free a\n0 fill a 1\n0 show a 0 1\n0 link a 0 a\n0 malloc a 32768\n0 size a\n0 malloc a 32769\n",
+            10,
+        ),
     ];
     for (lines, line) in rows {
         let trace = format!(in alloc; "{HEAD}{lines}")?;

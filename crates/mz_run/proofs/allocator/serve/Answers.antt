@@ -1,18 +1,18 @@
-use Rattle.std.proofs.Common.{◌≡◌, List, map, true, ap, sym, subst, ◌∙◌}
+use Rattle.std.proofs.Common.{List, ap, sym, subst, ◌∙◌}
 use Rattle.std.specs.Prelude.{IsTrue}
 use Rattle.std.specs.List.{list_all}
 use Rattle.mz_events.specs.State.{opening}
-use Rattle.mz_events.specs.History.{after_all, by_ticket, state_of}
+use Rattle.mz_events.specs.History.{after_all}
 use Rattle.mz_trace.specs.declared.round.Round.{Round}
 use Rattle.mz_trace.specs.declared.run.RunRound.{RunRound}
 use Rattle.mz_trace.specs.declared.tail.Figures.{Figures}
 use Rattle.mz_trace.specs.declared.tail.Listed.{Listed}
 use Rattle.mz_trace.specs.declared.trace.Trace.{Trace}
 use Rattle.mz_words.specs.Ranges.{is_listed_range}
-use Rattle.mz_trace.specs.RunForms.{IsRun, IsTail}
+use Rattle.mz_trace.specs.RunForms.{IsRun}
 use Rattle.mz_trace.specs.TailTexts.{listed_fits}
 use Rattle.mz_fit.specs.LawfulRun.{IsLawfulRun, last_standing}
-use Rattle.mz_fit.specs.Tail.{tail_of, listing_of, statistics_of}
+use Rattle.mz_fit.specs.Tail.{tail_of}
 use Rattle.mz_run.specs.Built.{is_built_round}
 use Rattle.mz_run.proofs.BuiltLemmas.{built_numbers, rounds_built}
 use Rattle.mz_run.proofs.RunIsLawful.{run_is_lawful, stands_last, tail_is}
@@ -75,7 +75,8 @@ pub returns-clause-has_text : goal.returns-clause-has_text
 returns-clause-has_text g c =
     let t : Trace = c.args.trace.now in
     let rounds = c.in_ok-rounds.rounds.items in
-    let told = c.in_ok-rounds.ensures.rounds ∙ c.as_slice.ensures in
-    ( subst (λ (l : List RunRound). IsRun (record { profile = t.profile; rounds = l })) (sym c.of.ensures)
-        (run_has_text t c.requires.trace c.requires.built rounds c.in_ok-session.session c.serve_rounds.new.session c.in_ok-rounds.ensures.turns told)
-    , record { each = ap (list_all listed_fits) (sym c.as_slice-2.ensures) ∙ c.listing.ensures; numbers = c.numbers.ensures } )
+    let told = c.in_ok-rounds.ensures.rounds ∙ c.as_slice.ensures in (
+      subst (λ (l : List RunRound). IsRun (record { profile = t.profile; rounds = l })) (sym c.of.ensures)
+          (run_has_text t c.requires.trace c.requires.built rounds c.in_ok-session.session c.serve_rounds.new.session c.in_ok-rounds.ensures.turns told),
+      record { each = ap (list_all listed_fits) (sym c.as_slice-2.ensures) ∙ c.listing.ensures; numbers = c.numbers.ensures },
+    )

@@ -1,10 +1,9 @@
-use Rattle.std.proofs.Common.{◌≡◌, ap, sym, subst, ◌∙◌, map}
+use Rattle.std.proofs.Common.{◌≡◌, subst, map}
 use Rattle.std.specs.Prelude.{IfSome}
 use Rattle.std.specs.List.Sorted.{IsPermutation}
 use Rattle.mz_base.specs.Space.{Block}
 use Rattle.mz_base.specs.Sizes.{route_of}
 use Rattle.mz_fit.specs.Standing.{default_zone}
-use Rattle.mz_trace.specs.declared.tail.Listed.{Listed}
 use Rattle.mz_session.specs.Listing.{listed_first}
 use Rattle.mz_session.proofs.ListingLemmas.{is_listing}
 use Rattle.mz_session.proofs.listing.listing.Goals as goal

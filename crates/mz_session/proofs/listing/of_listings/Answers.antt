@@ -1,5 +1,4 @@
 use Rattle.mz_events.specs.State.{opening}
-use Rattle.mz_session.proofs.ListingLemmas.{is_listing}
 use Rattle.mz_session.proofs.listing.of_listings.Goals as goal
 
 pub returns : goal.returns

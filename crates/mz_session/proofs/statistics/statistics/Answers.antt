@@ -1,4 +1,4 @@
-use Rattle.std.proofs.Common.{◌≡◌, ◌+◌, ap, sym, ◌∙◌, subst, take, slice_index_or, arith}
+use Rattle.std.proofs.Common.{ap, sym, ◌∙◌, subst, take, slice_index_or, arith}
 use Rattle.std.proofs.lemmas.List.{take_more, take_all}
 use Rattle.mz_events.specs.declared.entry.Entry.{Entry}
 use Rattle.mz_events.specs.declared.event.Event.TheVariants.{Take}

@@ -1,4 +1,4 @@
-use Rattle.std.proofs.Common.{◌≡◌, ◌++◌, ap, ◌∙◌, map}
+use Rattle.std.proofs.Common.{◌++◌, ap, ◌∙◌, map}
 use Rattle.mz_session.specs.Names.{block_of, blocks_named}
 use Rattle.mz_session.proofs.NameLemmas.{blocks-of-lots}
 use Rattle.mz_session.proofs.lots.Lots.blocks.Goals as goal

@@ -1,4 +1,4 @@
-use Rattle.std.proofs.Common.{◌≡◌, ◌∙◌, ap, sym, subst, Some, None}
+use Rattle.std.proofs.Common.{◌≡◌, ◌∙◌, ap, subst, Some, None}
 use Rattle.mz_session.specs.Names.{lot_named}
 use Rattle.mz_session.specs.Counts.{AreWith}
 use Rattle.mz_session.proofs.NameLemmas.{with-inserted}

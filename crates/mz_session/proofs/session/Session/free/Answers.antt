@@ -1,18 +1,17 @@
-use Rattle.std.proofs.Common.{◌≡◌, ◌∙◌, refl, ap, sym, subst, Some, None, Ok, [], length, arith}
-use Rattle.std.specs.Option.{option_map}
+use Rattle.std.proofs.Common.{◌≡◌, ◌∙◌, ap, sym, subst, Some, None, Ok, arith}
 use Rattle.mz_words.specs.declared.name.Name.TheVariants.{Base}
 use Rattle.mz_trace.specs.declared.answer.Answer.TheVariants as answers
 use Rattle.mz_trace.specs.declared.command.Command.TheVariants.{Free}
 use Rattle.mz_fit.specs.Tasks.{dropping}
 use Rattle.mz_rack.specs.Lots.{LotView}
-use Rattle.mz_session.specs.Names.{block_of, block_named, lot_named}
+use Rattle.mz_session.specs.Names.{block_named, lot_named}
 use Rattle.mz_session.specs.Counts.{AreWith}
 use Rattle.mz_session.specs.Sessions.{SessionView, setting_of, Serves}
 use Rattle.mz_rack.specs.Serving.{CanServe}
 use Rattle.mz_rack.specs.Freeing.{Frees}
 use Rattle.mz_session.specs.contracts.session.Session.{the_view}
 use Rattle.mz_session.proofs.ServedLemmas.{HasMoreRoom, can-serve, freeable, serves-not-held, serves-free}
-use Rattle.mz_session.proofs.RecordLemmas.{serves-refused, not-base, with-none, with-some}
+use Rattle.mz_session.proofs.RecordLemmas.{serves-refused, not-base, with-none}
 use Rattle.mz_session.proofs.session.Session.free.Goals as goal
 
 pub returns-in_default : goal.returns-in_default

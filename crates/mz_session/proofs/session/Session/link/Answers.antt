@@ -1,7 +1,5 @@
-use Rattle.std.proofs.Common.{◌≡◌, ◌∙◌, ◌+◌, ◌≤◌, ◌<◌, refl, ap, sym, subst, Some, None, [], length, arith}
-use Rattle.std.specs.Prelude.{IsSome, is_some}
+use Rattle.std.proofs.Common.{◌≡◌, ◌∙◌, ◌+◌, ◌≤◌, ◌<◌, ap, sym, subst, Some, None, length}
 use Rattle.std.specs.Option.{option_map}
-use Rattle.mz_words.specs.declared.name.Name.TheVariants.{Base}
 use Rattle.mz_trace.specs.declared.answer.Answer.TheVariants as answers
 use Rattle.mz_trace.specs.declared.command.Command.TheVariants.{Link}
 use Rattle.mz_rack.specs.Lots.{LotView}

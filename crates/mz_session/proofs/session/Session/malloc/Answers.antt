@@ -1,12 +1,11 @@
-use Rattle.std.proofs.Common.{◌≡◌, ◌∙◌, refl, ap, sym, subst, Some, None, Ok, Err, [], length}
+use Rattle.std.proofs.Common.{◌≡◌, ◌∙◌, refl, ap, sym, subst, Some, None, Ok, Err, length}
 use Rattle.std.specs.Prelude.{is_some}
 use Rattle.std.specs.Option.{option_map}
-use Rattle.mz_words.specs.declared.name.Name.TheVariants.{Base}
 use Rattle.mz_trace.specs.declared.answer.Answer.TheVariants as answers
 use Rattle.mz_trace.specs.declared.command.Command.TheVariants.{Malloc}
 use Rattle.mz_rack.specs.Lots.{LotView}
 use Rattle.mz_rack.specs.Serving.{CanServe, Answers}
-use Rattle.mz_session.specs.Names.{block_of, block_named, lot_named}
+use Rattle.mz_session.specs.Names.{block_of, lot_named}
 use Rattle.mz_session.specs.Counts.{AreWith}
 use Rattle.mz_session.specs.Sessions.{SessionView, setting_of, Serves}
 use Rattle.mz_session.specs.contracts.session.Session.{the_view}

@@ -1,12 +1,10 @@
-use Rattle.std.proofs.Common.{◌≡◌, ◌∙◌, ◌+◌, ◌≤◌, ◌<◌, refl, ap, sym, subst, Some, None, [], length, inl, inr, arith}
-use Rattle.std.specs.Prelude.{IsSome, is_some}
+use Rattle.std.proofs.Common.{◌≡◌, ◌∙◌, ◌+◌, ◌≤◌, ◌<◌, refl, ap, sym, subst, Some, None, length, inl, inr}
 use Rattle.std.specs.Option.{option_map}
-use Rattle.mz_words.specs.declared.name.Name.TheVariants.{Base}
 use Rattle.mz_trace.specs.declared.answer.Answer.TheVariants as answers
 use Rattle.mz_trace.specs.declared.command.Command.TheVariants.{Show}
 use Rattle.mz_rack.specs.Lots.{LotView}
 use Rattle.mz_session.specs.Names.{block_of, block_named, lot_named}
-use Rattle.mz_session.specs.Sessions.{SessionView, setting_of, Serves}
+use Rattle.mz_session.specs.Sessions.{SessionView, setting_of}
 use Rattle.mz_session.proofs.RecordLemmas.{serves-refused, not-base, with-none}
 use Rattle.mz_fit.specs.Tasks.{showing, refuse_if}
 use Rattle.std.specs.Prelude.{nat_lt, nat_le, take, drop}
@@ -57,10 +55,10 @@ returns-in-None c =
     let held : lot_named s.lots word ≡ Some l = ap (λ x. lot_named x.lots word) (sym c.self.view_is) ∙ sym c.in-Some.ensures in
     let block : block_named s.lots name ≡ Some (block_of l) = ap (block_named s.lots) is ∙ ap (option_map block_of) held in
     let beyond : length l.span.bytes < c.args.off + c.args.count =
-        subst (λ xs. length xs < c.args.off + c.args.count) c.bytes.ensures
-        (elim (cases_Bool (nat_le (c.args.off + c.args.count) (length c.bytes.result.now))) [
-          | inl within ↦ absurd (false≢true (c.in-None.ensures.there.1 (leb-true (c.args.off + c.args.count) (length c.bytes.result.now) within)))
-          | inr none ↦ leb-false (c.args.off + c.args.count) (length c.bytes.result.now) none
-        ])
+    subst (λ xs. length xs < c.args.off + c.args.count) c.bytes.ensures
+    (elim (cases_Bool (nat_le (c.args.off + c.args.count) (length c.bytes.result.now))) [
+      | inl within ↦ absurd (false≢true (c.in-None.ensures.there.1 (leb-true (c.args.off + c.args.count) (length c.bytes.result.now) within)))
+      | inr none ↦ leb-false (c.args.off + c.args.count) (length c.bytes.result.now) none
+    ])
     in
     serves-no-bytes s c.requires name l block c.args.off c.args.count beyond

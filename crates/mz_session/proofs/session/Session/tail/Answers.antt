@@ -1,6 +1,6 @@
-use Rattle.std.proofs.Common.{◌≡◌, List, ap, sym, subst, ◌∙◌}
+use Rattle.std.proofs.Common.{List, ap, sym, subst, ◌∙◌}
 use Rattle.mz_base.specs.Limits.{IsWithinLimits}
-use Rattle.mz_events.specs.State.{State, opening}
+use Rattle.mz_events.specs.State.{opening}
 use Rattle.mz_events.specs.History.{AreLawful, IsLawfulHistory, after_all}
 use Rattle.mz_book.specs.Account.{state_of}
 use Rattle.mz_book.specs.Rule.{KeepsRule}
@@ -44,7 +44,7 @@ returns-clause-tail c = λ v stands.
     let blocks = c.deref.ensures.value ∙ c.in_ok-blocks.ensures ∙ ap (λ (x : SessionView). blocks_named x.lots) c.self.view_is in
     let listed = c.in_ok-listing.ensures s.book.profile s.book.seen v limits kept.for_one lawful (subst (λ bs. AreLive bs (state_of s.book)) (sym blocks) live) stands.zones in
     let numbers = c.statistics.ensures
-        ∙ (ap (λ p. statistics_of p (after_all p opening c.history.result.now)) c.profile.ensures
-        ∙ (ap (λ es. statistics_of c.self.inside.book.profile (after_all c.self.inside.book.profile opening es)) c.history.ensures
-        ∙ ap (λ (x : SessionView). statistics_of x.book.profile (after_all x.book.profile opening x.book.seen)) c.self.view_is)) in
+    ∙ (ap (λ p. statistics_of p (after_all p opening c.history.result.now)) c.profile.ensures
+    ∙ (ap (λ es. statistics_of c.self.inside.book.profile (after_all c.self.inside.book.profile opening es)) c.history.ensures
+    ∙ ap (λ (x : SessionView). statistics_of x.book.profile (after_all x.book.profile opening x.book.seen)) c.self.view_is)) in
     ap (λ l. the l c.statistics.result) (c.of.ensures ∙ listed) ∙ ap (λ n. the (listing_of v (state_of s.book)) n) numbers

@@ -86,36 +86,47 @@ fn threshold_and_empty_depot_region(rt: HostRuntime) -> Result<(), Fail> {
     let space = "space 128 callers 1 magazines 1 nano 0 gen 1024 zones 1\n";
     let mut trace = format!(in alloc; "mzone-trace 1\n{space}round\n")?;
     let mut run = format!(in alloc; "mzone-run 1\n{space}round\ncaller 0\n")?;
-    let mut ticket = 0u64;
     for i in 0..4_096u64 {
         let address = i * 512;
         writeln!(trace, "0 malloc b{i} 512")?;
         writeln!(run, "> malloc b{i} 512")?;
+        let regions = i / 2_048;
         if i % 2_048 == 0 {
             let page = i / 32;
+            let ticket = i + 3 * regions;
             writeln!(run, "{ticket} full 0t0 512 16")?;
             writeln!(run, "{} full 0td 512 16", ticket + 1)?;
             writeln!(run, "{} take 0t0 {page} 64", ticket + 2)?;
-            ticket += 3;
         }
+        let ticket = i + 3 * regions + 3;
         writeln!(
             run,
             "{ticket} new 0t0 {address} 512 16\n= block {address} 512"
         )?;
-        ticket += 1;
     }
-    for i in (0..2_047u64).chain(2_048..4_096) {
+    for i in 0..2_047u64 {
         writeln!(trace, "0 free b{i}")?;
-        writeln!(run, "> free b{i}\n{ticket} end 0t0 {} 512", i * 512)?;
-        ticket += 1;
-        if i == 2_048 + 1_025 {
-            assert_eq!(rt; ticket, 7_175);
+        writeln!(
+            run,
+            "> free b{i}\n{} end 0t0 {} 512\n= ok",
+            4_102 + i,
+            i * 512
+        )?;
+    }
+    for i in 2_048..4_096u64 {
+        writeln!(trace, "0 free b{i}")?;
+        let moved = u64::from(i > 3_073);
+        writeln!(
+            run,
+            "> free b{i}\n{} end 0t0 {} 512",
+            4_101 + i + moved,
+            i * 512
+        )?;
+        if i == 3_073 {
             run.push_str("7175 move 0 0t0 0td\n")?;
-            ticket += 1;
         }
         run.push_str("= ok\n")?;
     }
-    assert_eq!(rt; ticket, 8_198);
     trace.push_str("0 free b2047\n")?;
     run.push_str(
         "> free b2047\n8198 end 0td 1048064 512\n8199 back 0td 0 64\n= ok\nend\n\

@@ -1,8 +1,8 @@
 -- The rounds of a trace whose lines are all built.
-use Rattle.std.proofs.Common.{◌≡◌, ℕ, ◌≤◌, Bool, true, List, [], ◌∷◌, ◌++◌, length, refl, subst, arith}
-use Rattle.std.specs.Prelude.{IsTrue, ◌&&◌, ◌==◌, nat_le, map}
+use Rattle.std.proofs.Common.{◌≡◌, ℕ, Bool, true, List, [], ◌∷◌, ◌++◌, length, refl, subst, arith}
+use Rattle.std.specs.Prelude.{IsTrue, ◌&&◌, ◌==◌, map}
 use Rattle.std.specs.List.{list_all}
-use Rattle.std.proofs.lemmas.Bool.{and_parts, and_from, false≢true, eqb-true, leb-true}
+use Rattle.std.proofs.lemmas.Bool.{and_parts, and_from, false≢true, eqb-true}
 use Rattle.mz_base.specs.declared.profile.Profile.{Profile}
 use Rattle.mz_lines.specs.declared.command.Command.{Command}
 use Rattle.mz_trace.specs.declared.round.Round.{Round}
@@ -11,6 +11,7 @@ use Rattle.mz_trace.specs.declared.trace.Trace.{Trace}
 use Rattle.mz_lines.specs.declared.line.Line.{Line}
 use Rattle.mz_lines.specs.declared.line.Line.TheVariants as line
 use Rattle.mz_trace.specs.Rounds.{HaveLists, call_line, calls_from, round_lines, lines_of_rounds}
+use Rattle.mz_session.specs.Sessions.{IsForOne}
 use Rattle.mz_run.specs.Built.{is_built_space, is_built_command, is_built_line, is_built_round, IsBuilt}
 
 -- of a list in two parts, all of each
@@ -50,31 +51,11 @@ built_rounds (r ∷ rs) lists all =
     and_from (is_built_round r) (list_all is_built_round rs) here (built_rounds rs lists.1 parts.1)
 
 -- the numbers of a space that is built
-pub record HasBuiltNumbers (p : Profile) : Type 0 where
-  pub pages : p.pages ≤ 64
-  pub callers : p.callers ≡ 1
-  pub magazines : p.magazines ≡ 1
-  pub nano : p.nano ≡ 0
-  pub zones : p.zones ≡ 1
-
-pub built_numbers : (p : Profile) → is_built_space p ≡ true → HasBuiltNumbers p
+pub built_numbers : (p : Profile) → is_built_space p ≡ true → IsForOne p
 built_numbers p built =
-    let a = nat_le p.pages 64 in
-    let b = p.callers == 1 in
-    let c = p.magazines == 1 in
-    let d = p.nano == 0 in
-    let e = p.zones == 1 in
-    let fifth = and_parts (a && b && c && d) e built in
-    let fourth = and_parts (a && b && c) d fifth.0 in
-    let third = and_parts (a && b) c fourth.0 in
-    let second = and_parts a b third.0 in
-    record {
-      pages = leb-true p.pages 64 second.0;
-      callers = eqb-true p.callers 1 second.1;
-      magazines = eqb-true p.magazines 1 third.1;
-      nano = eqb-true p.nano 0 fourth.1;
-      zones = eqb-true p.zones 1 fifth.1;
-    }
+    let last = and_parts ((p.callers == 1) && (p.nano == 0)) (p.zones == 1) built in
+    let first = and_parts (p.callers == 1) (p.nano == 0) last.0 in
+    record { callers = eqb-true p.callers 1 first.0; nano = eqb-true p.nano 0 first.1; zones = eqb-true p.zones 1 last.1 }
 
 -- each round of a trace that is built
 pub rounds_built : (t : Trace) → IsBuilt t → IsTrue (list_all is_built_round t.rounds)

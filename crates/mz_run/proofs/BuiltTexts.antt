@@ -1,5 +1,5 @@
 -- What a trace text has whose lines are all built, and which line of a text is the first that isn't.
-use Rattle.std.proofs.Common.{◌≡◌, ◌∙◌, ◌<◌, ◌≤◌, ℕ, zero, suc, ◌+◌, ◌^◌, Bool, true, false, List, [], ◌∷◌, ◌++◌, map, length, Result, Ok, Err, Option, Some, None, refl, ap, sym, subst, arith, length-append, append-nil, append_assoc, eq-eqb, eqb-true, ltb-true, if◌then◌else◌}
+use Rattle.std.proofs.Common.{◌≡◌, ◌∙◌, ◌<◌, ◌≤◌, ℕ, zero, suc, ◌+◌, ◌^◌, Bool, true, false, List, [], ◌∷◌, ◌++◌, map, length, Result, Ok, Err, Option, Some, None, refl, ap, sym, subst, arith, length-append, append-nil, append_assoc, eq-eqb, ltb-true, if◌then◌else◌}
 use Rattle.std.specs.Prelude.{◌==◌, not, option_map}
 use Rattle.std.specs.List.{list_all, position, join_with_byte}
 use Rattle.std.proofs.lemmas.Bool.{and_parts}
@@ -16,6 +16,7 @@ use Rattle.mz_trace.specs.Texts.{first_words, lines_text, IsTraceText, lines_of}
 use Rattle.mz_lines.specs.Spaces.{space_words}
 use Rattle.mz_words.specs.Lines.{line_text}
 use Rattle.mz_run.specs.declared.built.Unbuilt.{Unbuilt}
+use Rattle.mz_run.proofs.BuiltLemmas.{built_numbers}
 use Rattle.mz_run.specs.Built.{is_built_space, is_built_line, unbuilt_line, IsBuilt, HasUnbuilt}
 use Rattle.mz_run.specs.Passing.{passed}
 use Rattle.mz_run.specs.Top.{most_bytes, IsRunOutput}
@@ -67,19 +68,10 @@ have_lists callers _ _ none = tt
 have_lists callers _ _ (more front back before r fronts is) =
     more_lists callers before r (have_lists callers front before fronts) (ap length is.lists ∙ count_lists 0 callers is.calls)
 
--- a space that is built has one caller
-one_caller : (p : Profile) → is_built_space p ≡ true → p.callers ≡ 1
-one_caller p h =
-    let zones = and_parts _ _ h in
-    let nano = and_parts _ _ zones.0 in
-    let magazines = and_parts _ _ nano.0 in
-    let callers = and_parts _ _ magazines.0 in
-    eqb-true p.callers 1 callers.1
-
 -- in a space that is built, the lines of a text are those of the normal form
 pub same_lines : (bytes : List ℕ) (t : Trace) (text : IsTraceText bytes t) → is_built_space t.profile ≡ true → text.lines ≡ lines_of t
 same_lines bytes t text built =
-    let one = one_caller t.profile built in
+    let one = (built_numbers t.profile built).callers in
     own_rounds text.lines t.rounds (subst (λ (n : ℕ). AreRounds n text.lines t.rounds) one text.rounds)
     (subst (λ (n : ℕ). list_all (line_fits n) text.lines ≡ true) one text.kept.each)
 

@@ -1,23 +1,9 @@
-pub mod BlocksLemmas
-pub mod PlaceLemmas
-pub mod FrontLemmas
-pub mod ByAddressLemmas
-pub mod NamesMapLemmas
-pub mod Standing
-pub mod EventLemmas
-pub mod LeadLemmas
-pub mod OrderLemmas
-pub mod StandsLemmas
-pub mod HeldLemmas
-pub mod RecordLemmas
-pub mod SessionSound
-pub mod HeldNames
-pub mod TurnLemmas
-pub mod BuiltLemmas
-pub mod RunLemmas
-pub mod RunTextLemmas
-pub mod PassLemmas
-pub mod BuiltTexts
-pub mod InputLemmas
-pub mod TopLemmas
-pub mod ReplyLemmas
+mod TurnLemmas
+mod RunIsLawful
+mod BuiltLemmas
+mod RunTextLemmas
+mod PassLemmas
+mod BuiltTexts
+mod InputLemmas
+mod TopLemmas
+mod ReplyLemmas

@@ -1,7 +1,6 @@
 pub mod Built
-pub mod NamesMap
-pub mod Blocks
-pub mod Session
+pub mod Turns
+pub mod RunLaws
 pub mod Passing
 pub mod Jobs
 pub mod Top

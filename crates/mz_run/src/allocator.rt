@@ -1,19 +1,26 @@
 //! From a trace to a run of it.
 
-ghost use Rattle.std.specs.Prelude.{◌≡◌, IfOk, OnOk, IsTrue, map};
+ghost use Rattle.std.specs.Prelude.{◌≡◌, true, IfOk, OnOk, IsTrue, map};
 ghost use Rattle.std.specs.List.{list_all};
 ghost use Rattle.mz_fit.specs.LawfulRun.{IsLawfulRun};
 ghost use Rattle.mz_fit.specs.Tail.{tail_of};
 ghost use Rattle.mz_trace.specs.RunForms.{IsRun, IsTail};
 ghost use Rattle.mz_trace.specs.RunTexts.{round_of};
 ghost use Rattle.mz_trace.specs.Texts.{IsTrace};
-ghost use Rattle.mz_run.specs.Built.{IsBuilt, is_built_round};
-ghost use Rattle.mz_run.specs.Session.{IsSound, RoundTurns, RoundsTurn};
+ghost use Rattle.mz_trace.specs.RunForms.{step_fits};
+ghost use Rattle.mz_session.specs.Sessions.{IsKept, Serves};
+ghost use Rattle.mz_run.specs.RunLaws.{RunLaws};
+ghost use Rattle.mz_run.specs.Built.{IsBuilt, is_built_round, is_built_command};
+ghost use Rattle.mz_run.specs.Turns.{step_of, Turn, Turns, RoundTurns, RoundsTurn};
 
-use crate::session::Session;
+use crate::told;
 use mz_base::Items;
+use mz_events::Entry;
+use mz_events::laws::entries::tickets_are_indices;
 use mz_io::Gate;
-use mz_trace::{Figures, Round, Run, RunRound, Trace};
+use mz_record::laws::later_entries;
+use mz_session::Session;
+use mz_trace::{Answer, CallRecord, Command, Figures, Round, Run, RunRound, Step, Trace};
 use std::alloc::{AllocError, Global};
 use std::sync::Wait;
 
@@ -30,14 +37,25 @@ pub fn serve<R: Wait + Sync, G: Gate>(
     ensures tail { IfOk result (λ pair. pair.1 ≡ tail_of pair.0) }
     ensures has_text { IfOk result (λ pair. IsRun pair.0 × IsTail pair.1) }
 {
-    let mut session = Session::open(alloc, trace.profile.pages);
+    of_runs();
+    let mut session = Session::open(alloc, &trace.profile)?;
     let rounds = serve_rounds(rt, alloc, &mut session, trace.rounds.as_slice(), gate)?;
     let figures = session.tail(alloc)?;
+    told::listing(figures.listing.as_slice());
+    told::numbers(figures.statistics);
     let run = Run {
         profile: trace.profile,
         rounds: Items::of(rounds),
     };
     Ok((run, figures))
+}
+
+// The laws of histories on which this rests hold, all together.
+fn of_runs()
+    ensures { RunLaws }
+{
+    tickets_are_indices();
+    later_entries();
 }
 
 // Serves rounds, one after another.
@@ -48,10 +66,10 @@ fn serve_rounds<R: Wait + Sync, G: Gate>(
     rounds: &[Round],
     gate: &G,
 ) -> Result<Vec<RunRound>, AllocError>
-    requires sound { IsSound session.old }
     requires built { IsTrue (list_all is_built_round rounds.now) }
+    requires kept { IsKept session.old }
+    ensures kept { OnOk result (IsKept session.new) }
     ensures turns { IfOk result (λ rs. RoundsTurn session.old rs.items session.new) }
-    ensures sound { OnOk result (IsSound session.new) }
     ensures rounds { IfOk result (λ rs. map round_of rs.items ≡ rounds.now) }
 {
     let mut served = Vec::new(alloc);
@@ -70,19 +88,101 @@ fn serve_round<R: Wait + Sync, G: Gate>(
     round: &Round,
     gate: &G,
 ) -> Result<RunRound, AllocError>
-    requires sound { IsSound session.old }
     requires built { IsTrue (is_built_round round.now) }
+    requires kept { IsKept session.old }
+    ensures kept { OnOk result (IsKept session.new) }
     ensures turns { IfOk result (λ r. RoundTurns session.old r session.new) }
-    ensures sound { OnOk result (IsSound session.new) }
     ensures round { IfOk result (λ r. round_of r ≡ round.now) }
 {
     let [commands] = round.commands.as_slice() else {
         unreachable!();
     };
-    let records = session.round(rt, alloc, commands.as_slice(), gate)?;
+    let records = serve_commands(rt, alloc, session, commands.as_slice(), gate)?;
     let callers = vec![in alloc; Items::of(records)]?;
     Ok(RunRound {
         starts: Items::new(alloc),
         callers: Items::of(callers),
     })
+}
+
+// Serves the commands of the one caller, each behind the gate.
+fn serve_commands<R: Wait + Sync, G: Gate>(
+    rt: &R,
+    alloc: Global,
+    session: &mut Session,
+    commands: &[Command],
+    gate: &G,
+) -> Result<Vec<CallRecord>, AllocError>
+    requires built { IsTrue (list_all is_built_command commands.now) }
+    requires kept { IsKept session.old }
+    ensures kept { OnOk result (IsKept session.new) }
+    ensures turns { IfOk result (λ ds. Turns session.old ds.items session.new) }
+    ensures commands { IfOk result (λ ds. map (λ d. d.command) ds.items ≡ commands.now) }
+{
+    let mut records = Vec::new(alloc);
+    for (index, command) in commands.iter().enumerate() {
+        gate.pass(rt, 0, index as u64);
+        let record = serve_command(rt, alloc, session, command)?;
+        records.push(record)?;
+    }
+    Ok(records)
+}
+
+// Serves a command, and tells what became of it.
+fn serve_command<R: Wait>(
+    rt: &R,
+    alloc: Global,
+    session: &mut Session,
+    command: &Command,
+) -> Result<CallRecord, AllocError>
+    requires built { IsTrue (is_built_command command.now) }
+    requires kept { IsKept session.old }
+    ensures turn { IfOk result (λ d. Turn session.old d session.new) }
+    ensures command { IfOk result (λ d. d.command ≡ command.now) }
+{
+    let before = session.history().len();
+    let answer = told::answer(answer_to(rt, session, command)?);
+    let steps = steps_of(alloc, &session.history()[before..])?;
+    Ok(CallRecord {
+        command: *command,
+        steps: Items::of(steps),
+        answer,
+    })
+}
+
+// Has the session serve a command.
+fn answer_to<R: Wait>(
+    rt: &R,
+    session: &mut Session,
+    command: &Command,
+) -> Result<Answer, AllocError>
+    requires built { IsTrue (is_built_command command.now) }
+    requires kept { IsKept session.old }
+    ensures { IfOk result (λ answer. Serves session.old command.now answer session.new) }
+{
+    match *command {
+        Command::Malloc { name, n } => session.malloc(rt, name, n),
+        Command::Free { name } => session.free(rt, name),
+        Command::Fill { name, byte } => Ok(session.fill(name, byte)),
+        Command::Show { name, off, count } => Ok(session.show(name, off, count)),
+        Command::Link { name, off, target } => Ok(session.link(name, off, target)),
+        _ => unreachable!(),
+    }
+}
+
+// Entries as a record has them.
+fn steps_of(alloc: Global, entries: &[Entry]) -> Result<Vec<Step>, AllocError>
+    ensures steps { IfOk result (λ steps. steps.items ≡ map step_of entries.now) }
+    ensures told { IfOk result (λ steps. list_all step_fits steps.items ≡ true) }
+{
+    let mut steps = Vec::with_capacity(alloc, entries.len())?;
+    for entry in entries {
+        let step = Step {
+            ticket: entry.ticket,
+            event: entry.event,
+        };
+        told::step(step);
+        steps.push(step)?;
+    }
+    Ok(steps)
 }

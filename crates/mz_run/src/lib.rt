@@ -7,21 +7,19 @@
 //! - `top`, `job`, `status`: the calls, what they are asked to do, and how they end.
 //! - `input`, `reply`: what is read, and what there is to say.
 //! - `built`: the first line of a trace that isn't served yet.
-//! - `allocator`, `session`, `blocks`, `names`: from a trace to a run of it.
+//! - `allocator`: from a trace to a run of it; `told`: what a run tells has numbers that a line can have.
 //! - `laws`: what the definitions mean, as contracts of functions that do nothing.
 #![tactic(auto)]
 
 mod allocator;
-mod blocks;
 mod built;
 mod input;
 pub mod job;
 pub mod laws;
-mod names;
 mod reply;
-mod session;
 pub mod status;
-pub mod top;
+mod told;
+mod top;
 
 pub use job::{Job, RunJob, Tool};
 pub use status::Status;

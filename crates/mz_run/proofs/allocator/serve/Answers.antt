@@ -1,43 +1,82 @@
-use Rattle.std.proofs.Common.{List, ◌≡◌, sym, subst, ◌∙◌}
+use Rattle.std.proofs.Common.{List, ap, sym, subst, ◌∙◌}
 use Rattle.std.specs.Prelude.{IsTrue}
 use Rattle.std.specs.List.{list_all}
+use Rattle.mz_events.specs.State.{opening}
+use Rattle.mz_events.specs.History.{after_all}
 use Rattle.mz_trace.specs.declared.round.Round.{Round}
 use Rattle.mz_trace.specs.declared.run.RunRound.{RunRound}
 use Rattle.mz_trace.specs.declared.tail.Figures.{Figures}
+use Rattle.mz_trace.specs.declared.tail.Listed.{Listed}
 use Rattle.mz_trace.specs.declared.trace.Trace.{Trace}
-use Rattle.mz_fit.specs.LawfulRun.{IsLawfulRun}
+use Rattle.mz_words.specs.Ranges.{is_listed_range}
+use Rattle.mz_trace.specs.RunForms.{IsRun}
+use Rattle.mz_trace.specs.TailTexts.{listed_fits}
+use Rattle.mz_fit.specs.LawfulRun.{IsLawfulRun, last_standing}
 use Rattle.mz_fit.specs.Tail.{tail_of}
-use Rattle.mz_trace.specs.RunForms.{IsRun, IsTail}
 use Rattle.mz_run.specs.Built.{is_built_round}
-use Rattle.mz_run.proofs.BuiltLemmas.{rounds_built}
-use Rattle.mz_run.proofs.RunLemmas.{run_is_lawful, tail_is_of_run}
-use Rattle.mz_run.proofs.RunTextLemmas.{run_has_text, tail_has_text}
+use Rattle.mz_run.proofs.BuiltLemmas.{built_numbers, rounds_built}
+use Rattle.mz_run.proofs.RunIsLawful.{run_is_lawful, stands_last, tail_is}
+use Rattle.mz_run.proofs.RunTextLemmas.{run_has_text, ranges_are_listed}
 use Rattle.mz_run.proofs.allocator.serve.Goals as goal
+
+pub open-requires-clause-for_one : goal.open-requires-clause-for_one
+open-requires-clause-for_one g c = built_numbers c.args.trace.now.profile c.requires.built.space
 
 pub serve_rounds-requires-clause-built : goal.serve_rounds-requires-clause-built
 serve_rounds-requires-clause-built g c κs within =
     subst (λ (l : List Round). IsTrue (list_all is_built_round l)) (sym c.as_slice.ensures) (rounds_built c.args.trace.now c.requires.built)
 
-pub returns : goal.returns
-returns g c =
+pub serve_rounds-requires-clause-kept : goal.serve_rounds-requires-clause-kept
+serve_rounds-requires-clause-kept g c κs within = c.in_ok-session.ensures.kept
+
+pub tail-requires : goal.tail-requires
+tail-requires g c = c.in_ok-rounds.ensures.kept
+
+pub listing-requires : goal.listing-requires
+listing-requires g c =
     let t : Trace = c.args.trace.now in
     let rounds = c.in_ok-rounds.rounds.items in
-    let is : c.of.result ≡ rounds = c.of.ensures in
-    let v = c.open-session.result in
+    let v = c.in_ok-session.session in
     let u = c.serve_rounds.new.session in
-    let opened = c.open-session.ensures.opened in
+    let opened = c.in_ok-session.ensures in
     let turns = c.in_ok-rounds.ensures.turns in
+    let lawful = c.tail.ensures.each in
+    let w = last_standing (record { profile = t.profile; rounds = rounds }) in
+    let stands = stands_last c.of_runs.ensures t rounds v u opened turns lawful in
+    ap (list_all (λ (l : Listed). is_listed_range l.range)) (c.as_slice-2.ensures ∙ ap (λ (f : Figures). f.listing) (c.in_ok-figures.ensures.tail w stands))
+    ∙ ranges_are_listed w (after_all u.book.profile opening u.book.seen)
+
+pub returns-clause-lawful : goal.returns-clause-lawful
+returns-clause-lawful g c =
+    let t : Trace = c.args.trace.now in
+    let rounds = c.in_ok-rounds.rounds.items in
+    let v = c.in_ok-session.session in
+    let u = c.serve_rounds.new.session in
+    let opened = c.in_ok-session.ensures in
+    let turns = c.in_ok-rounds.ensures.turns in
+    let lawful = c.tail.ensures.each in
     let told = c.in_ok-rounds.ensures.rounds ∙ c.as_slice.ensures in
-    let sound = c.in_ok-rounds.ensures.sound in
-    let few = c.tail.ensures.few in
-    record {
-      lawful = subst (λ (l : List RunRound). IsLawfulRun t (record { profile = t.profile; rounds = l })) (sym is)
-          (run_is_lawful t rounds v u c.requires.built opened turns told);
-      tail = subst (λ (l : List RunRound). c.in_ok-figures.figures ≡ tail_of (record { profile = t.profile; rounds = l })) (sym is)
-          (c.in_ok-figures.ensures.tail ∙ tail_is_of_run t rounds v u c.requires.built opened turns sound);
-      has_text = (
-        subst (λ (l : List RunRound). IsRun (record { profile = t.profile; rounds = l })) (sym is)
-            (run_has_text t c.requires.trace c.requires.built rounds v u c.open-session.ensures.sound few turns told),
-        subst (λ (f : Figures). IsTail f) (sym c.in_ok-figures.ensures.tail) (tail_has_text u sound),
-      );
-    }
+    subst (λ (l : List RunRound). IsLawfulRun t (record { profile = t.profile; rounds = l })) (sym c.of.ensures)
+    (run_is_lawful c.of_runs.ensures t rounds v u opened turns lawful told c.tail.ensures.lawful)
+
+pub returns-clause-tail : goal.returns-clause-tail
+returns-clause-tail g c =
+    let t : Trace = c.args.trace.now in
+    let rounds = c.in_ok-rounds.rounds.items in
+    let v = c.in_ok-session.session in
+    let u = c.serve_rounds.new.session in
+    let opened = c.in_ok-session.ensures in
+    let turns = c.in_ok-rounds.ensures.turns in
+    let lawful = c.tail.ensures.each in
+    tail_is c.of_runs.ensures t rounds v u opened turns lawful c.in_ok-figures.figures c.in_ok-figures.ensures.tail
+    ∙ ap (λ (l : List RunRound). tail_of (record { profile = t.profile; rounds = l })) (sym c.of.ensures)
+
+pub returns-clause-has_text : goal.returns-clause-has_text
+returns-clause-has_text g c =
+    let t : Trace = c.args.trace.now in
+    let rounds = c.in_ok-rounds.rounds.items in
+    let told = c.in_ok-rounds.ensures.rounds ∙ c.as_slice.ensures in (
+      subst (λ (l : List RunRound). IsRun (record { profile = t.profile; rounds = l })) (sym c.of.ensures)
+          (run_has_text t c.requires.trace c.requires.built rounds c.in_ok-session.session c.serve_rounds.new.session c.in_ok-rounds.ensures.turns told),
+      record { each = ap (list_all listed_fits) (sym c.as_slice-2.ensures) ∙ c.listing.ensures; numbers = c.numbers.ensures },
+    )

@@ -1,0 +1,14 @@
+-- The laws of histories on which a run rests, together.
+use Rattle.std.specs.Prelude.{◌≡◌, List, ◌++◌, Option, Contains}
+use Rattle.mz_base.specs.declared.profile.Profile.{Profile}
+use Rattle.mz_base.specs.Space.{Block}
+use Rattle.mz_events.specs.declared.entry.Entry.{Entry}
+use Rattle.mz_events.specs.State.{State, opening}
+use Rattle.mz_events.specs.History.{AreLawful, by_ticket}
+use Rattle.mz_record.specs.Served.{Request, Serves}
+use Rattle.mz_record.specs.Dropped.{IsDropped}
+
+pub record RunLaws : Type 0 where
+  pub in_order : (p : Profile) (s : State) (es : List Entry) → AreLawful p s es → by_ticket es ≡ es
+  pub served : (p : Profile) (h later : List Entry) (q : Request) (es : List Entry) (got : Option Block) → AreLawful p opening (h ++ later) → ((e : Entry) → Contains es e → Contains h e) → Serves p h q es got → Serves p (h ++ later) q es got
+  pub dropped : (p : Profile) (h later : List Entry) (b : Block) (es : List Entry) → AreLawful p opening (h ++ later) → ((e : Entry) → Contains es e → Contains h e) → IsDropped p h b es → IsDropped p (h ++ later) b es

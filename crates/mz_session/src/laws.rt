@@ -1,0 +1,28 @@
+//! The laws on which a session rests.
+
+ghost use Rattle.mz_book.specs.Account.{IsOrderly};
+ghost use Rattle.mz_session.specs.SessionLaws.{SessionLaws};
+
+use mz_book::Book;
+use mz_book::laws::hands;
+use mz_events::laws::entries;
+use mz_rack::Keeper;
+
+/// They hold, all together.
+pub(crate) fn of_sessions()
+    ensures { SessionLaws }
+{
+    hands::hands_after_an_event();
+    entries::tickets_are_indices();
+    mz_record::laws::hands_after_requests();
+    mz_record::laws::served_is_made();
+    mz_record::laws::bytes_are_kept();
+    mz_base::laws::good_size_is_least();
+}
+
+/// What holds of every book.
+pub(crate) fn of_book<B: Book<Keeper>>(book: &B)
+    ensures { IsOrderly (B.account book.now) }
+{
+    let _ = book;
+}

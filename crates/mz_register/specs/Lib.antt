@@ -1,0 +1,4 @@
+pub mod Seats
+pub mod Codes
+pub mod Passes
+pub mod Accounts

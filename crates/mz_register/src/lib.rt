@@ -2,7 +2,10 @@
 //!
 //! - `register`: `Register`, which threads share.
 //! - `steps`: the single steps, each one call of the table.
-//! - `pass`: `Pass`, a caller's right to use the register, and what a caller does with it.
+//! - `hold`: a keeper is locked and taken, by one try or by waiting.
+//! - `pass`: `Pass`, a caller's right to use the register, with its record.
+//! - `calls`: what a caller does with its pass.
+//! - `find`: where a number stands.
 //! - `desk`: `Desk`, at which a pass is a book.
 //! - `open`: a plain book is taken apart into a register and a pass for each caller.
 //!
@@ -25,6 +28,9 @@
 
 
 
+mod calls;
+mod find;
+mod hold;
 pub mod pass;
 pub mod register;
 mod steps;

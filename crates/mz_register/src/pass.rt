@@ -4,15 +4,11 @@ ghost use Rattle.std.specs.Vec.{vec_capacity};
 ghost use Rattle.mz_book.specs.Keepers.{keeper_count};
 ghost use Rattle.mz_register.specs.Passes.{keys, bare, IsRested, IsKnowing, rested_once, knowing_once};
 
-use crate::register::Register;
 use atomic_table::Seat;
-use mz_book::{Asked, Found, Light};
-use mz_desk::laws::of_histories;
+use mz_book::Asked;
 use mz_desk::view::View;
-use mz_events::{Entry, Event, Keep};
+use mz_events::Entry;
 use std::alloc::AllocError;
-use std::sync::Wait;
-use std::thread::yield_now;
 
 /// A caller's right to use a register, with its record. `limit` bounds the record, for which there is room. If it is dropped, the keepers
 /// and lights that it holds stay held.
@@ -40,4 +36,41 @@ pub struct Pass<V> {
 #[derive(Clone, Copy, Debug, PartialEq, Eq)]
 pub struct Taken {
     pub word: u64,
+}
+
+impl<V> Pass<V> {
+    ghost use Rattle.std.specs.Prelude.{OnOk, OnErr};
+    ghost use Rattle.mz_book.specs.Plain.{Reserves};
+    ghost use Rattle.mz_register.specs.Accounts.{pass_account};
+
+    /// The number of the caller.
+    pub fn caller(&self) -> u32
+        ensures { result ≡ (pass_account self.now).caller }
+    {
+        self.caller
+    }
+
+    /// The entries that the caller noted since the register was opened, in order of ticket.
+    pub fn record(&self) -> &[Entry]
+        ensures { result.now ≡ (pass_account self.now).noted }
+    {
+        self.noted.as_slice()
+    }
+
+    /// Makes room for `n` entries more. Pairs need none. A record has at most 2^58 entries: for more there is no memory.
+    pub fn reserve(&mut self, n: u64) -> Result<(), AllocError>
+        ensures ok { OnOk result (Reserves (pass_account self.old) n (pass_account self.new)) }
+        ensures err { OnErr result (pass_account self.new ≡ pass_account self.old) }
+    {
+        let len = self.noted.len();
+        if n > (1 << 58) - len as u64 {
+            return Err(AllocError);
+        }
+        let n = n as usize;
+        if n > self.limit - len {
+            self.noted.reserve(n)?;
+            self.limit = len + n;
+        }
+        Ok(())
+    }
 }

@@ -1,4 +1,6 @@
 mod Carried
 mod Places
 mod Rests
-mod Calls
+mod AccountMoves
+mod SeatCalls
+mod PassLemmas

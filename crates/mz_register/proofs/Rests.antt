@@ -1,8 +1,8 @@
 -- What a pass keeps after a step of its seat.
-use Rattle.std.proofs.Common.{◌≡◌, ℕ, ◌+◌, ◌-◌, ◌*◌, ◌^◌, ◌<◌, ◌≤◌, ◌==◌, Bool, true, false, cond, not, List, [], ◌∷◌, ◌++◌, length, take, drop, set, refl, sym, ap, ◌∙◌, subst, arith, zero, suc, length-append}
+use Rattle.std.proofs.Common.{◌≡◌, ℕ, ◌+◌, ◌-◌, ◌*◌, ◌^◌, ◌<◌, ◌≤◌, ◌==◌, Bool, true, false, cond, not, List, [], ◌∷◌, ◌++◌, length, take, drop, set, refl, sym, ap, ◌∙◌, subst, arith, zero, suc, length-append, ⊎_elim, ◌⊎◌, if◌then◌else◌}
 use Rattle.std.specs.Prelude.{nat_lt, nat_le, ◌&&◌, filter}
 use Rattle.std.specs.List.{list_all}
-use Rattle.std.proofs.lemmas.Bool.{false≢true, and_parts, and_from}
+use Rattle.std.proofs.lemmas.Bool.{false≢true, and_parts, and_from, eqb-true, cases_Bool}
 use Rattle.std.proofs.lemmas.Bool.Decides.{nat_tests}
 use Rattle.std.proofs.lemmas.List.{take-append-drop}
 use Rattle.std.proofs.Math.Seq.{drop-append_seam}
@@ -10,6 +10,9 @@ use Rattle.mz_events.specs.declared.entry.Entry.{Entry}
 use Rattle.mz_events.specs.Hands.{own}
 use Rattle.mz_book.specs.Account.{is_ascending, IsRecord}
 use Rattle.mz_book.specs.Keepers.{is_among}
+use Rattle.mz_base.specs.Lists.{insert_by}
+use Rattle.mz_book.specs.declared.light.Light.{Light}
+use Rattle.mz_book.specs.Lights.{same_light, has_light, drop_light}
 use Rattle.mz_book.specs.Calls.{without}
 use Rattle.mz_desk.specs.declared.view.View.{View}
 use Rattle.mz_desk.specs.Steps.{Knows}
@@ -81,3 +84,36 @@ pub all_set : (test : ℕ → Bool) (xs : List ℕ) (i v : ℕ) → test v ≡ t
 all_set test [] i v t h = refl
 all_set test (x ∷ xs) zero v t h = and_from (test v) (list_all test xs) t ((and_parts (test x) (list_all test xs) h).1)
 all_set test (x ∷ xs) (suc i) v t h = let a = and_parts (test x) (list_all test xs) h in and_from (test x) (list_all test (set xs i v)) a.0 (all_set test xs i v t a.1)
+
+-- lights that are held
+
+insert_case : (test : Light → Bool) (l x : Light) (xs ys : List Light) (d : Bool) → test l ≡ true → list_all test (x ∷ xs) ≡ true → list_all test ys ≡ true → list_all test (if d then l ∷ x ∷ xs else x ∷ ys) ≡ true
+insert_case test l x xs ys true t h g = and_from (test l) (list_all test (x ∷ xs)) t h
+insert_case test l x xs ys false t h g = and_from (test x) (list_all test ys) ((and_parts (test x) (list_all test xs) h).0) g
+
+pub all_insert : (test : Light → Bool) (key : Light → ℕ) (l : Light) (xs : List Light) → test l ≡ true → list_all test xs ≡ true → list_all test (insert_by key l xs) ≡ true
+unfolding insert_by
+all_insert test key l [] t h = and_from (test l) true t refl
+all_insert test key l (x ∷ xs) t h = insert_case test l x xs (insert_by key l xs) (nat_lt (key l) (key x)) t h (all_insert test key l xs t ((and_parts (test x) (list_all test xs) h).1))
+
+dropped_case : (test : Light → Bool) (x : Light) (xs : List Light) (d : Bool) → test x ≡ true → list_all test xs ≡ true → list_all test (cond (not d) (x ∷ xs) xs) ≡ true
+dropped_case test x xs true t h = h
+dropped_case test x xs false t h = and_from (test x) (list_all test xs) t h
+
+pub all_dropped : (test : Light → Bool) (l : Light) (xs : List Light) → list_all test xs ≡ true → list_all test (drop_light l xs) ≡ true
+all_dropped test l [] h = refl
+all_dropped test l (x ∷ xs) h = let a = and_parts (test x) (list_all test xs) h in dropped_case test x (drop_light l xs) (same_light l x) a.0 (all_dropped test l xs a.1)
+
+light_case : (l x : Light) → same_light l x ≡ true → l ≡ x
+light_case l x h =
+    let a = and_parts (l.block == x.block) (l.slot == x.slot) h in
+    let b = eqb-true l.block x.block a.0 in
+    let s = eqb-true l.slot x.slot a.1 in
+    λ i. record { block = b i; slot = s i }
+
+-- a light that is held is one of them
+pub light_among : (test : Light → Bool) (l : Light) (xs : List Light) → has_light xs l ≡ true → list_all test xs ≡ true → test l ≡ true
+light_among test l [] h a = absurd (false≢true h)
+light_among test l (x ∷ xs) h a =
+    let c = and_parts (test x) (list_all test xs) a in
+    ⊎_elim (λ (y : same_light l x ≡ true). ap test (light_case l x y) ∙ c.0) (λ (z : same_light l x ≡ false). light_among test l xs (rw z at h) c.1) (cases_Bool (same_light l x))

@@ -13,6 +13,7 @@ use Rattle.mz_events.specs.Changes.{one_for}
 use Rattle.mz_events.specs.History.{AreLawful, after_all}
 use Rattle.mz_events.specs.Hands.{own}
 use Rattle.mz_events.specs.Codes.{all_lawful_once}
+use Rattle.mz_book.specs.declared.light.Light.{Light}
 use Rattle.mz_book.specs.Keepers.{keeper_count}
 use Rattle.mz_book.specs.Pairs.{owners}
 use Rattle.mz_book.specs.Account.{Account, is_live, is_ascending}
@@ -46,6 +47,10 @@ bare (x ∷ xs) = is_empty x.1 && bare xs
 abbrev pub last_own : View → List Entry
 last_own v = drop (length (own v.caller v.seen) - length v.noted) (own v.caller v.seen)
 
+-- the light is of a slot
+abbrev pub is_light_of : Profile → Light → Bool
+is_light_of p l = nat_lt l.block p.nano && nat_lt l.slot 1024
+
 -- The view of caller c, whose record and held keepers are these. It isn't in the middle of a hold and took in no other.
 pub record IsRested (v : View) (c : ℕ) (noted : List Entry) (held : List ℕ) : Type 0 where
   pub live : v.live ≡ true
@@ -58,6 +63,7 @@ pub record IsRested (v : View) (c : ℕ) (noted : List Entry) (held : List ℕ) 
   pub below : list_all (λ k. nat_lt k (keeper_count v.profile)) v.held ≡ true
   pub sized : length v.settled ≡ v.profile.nano
   pub classes : list_all (λ k. nat_le k 16) v.settled ≡ true
+  pub lit : list_all (is_light_of v.profile) v.lights ≡ true
 
 -- and what it knows by all that it has seen
 pub record IsKnowing (v : View) : Type 0 where
@@ -80,6 +86,7 @@ rested_once v c noted held x y = λ i. record {
   below = Coded-set coded_bool _ _ x.below y.below i;
   sized = Coded-set coded_ℕ _ _ x.sized y.sized i;
   classes = Coded-set coded_bool _ _ x.classes y.classes i;
+  lit = Coded-set coded_bool _ _ x.lit y.lit i;
 }
 
 pub knowing_once : (v : View) → IsProp (IsKnowing v)

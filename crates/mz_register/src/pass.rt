@@ -1,5 +1,5 @@
 //! A caller's right to use the register.
-ghost use Rattle.std.specs.Prelude.{◌≡◌, ◌≢◌, ◌+◌, ◌-◌, ◌^◌, ◌<◌, ◌≤◌, true, length, reverse, take, drop, ◌++◌, vec_len};
+ghost use Rattle.std.specs.Prelude.{◌≡◌, ◌≢◌, ◌+◌, ◌-◌, ◌^◌, ◌<◌, ◌≤◌, true, length, reverse, take, drop, ◌++◌};
 ghost use Rattle.std.specs.Vec.{vec_capacity};
 ghost use Rattle.mz_book.specs.Keepers.{keeper_count};
 ghost use Rattle.mz_register.specs.Passes.{keys, bare, IsRested, IsKnowing, rested_once, knowing_once};
@@ -27,7 +27,7 @@ pub struct Pass<V> {
     ghost carried: { keys seat.me.1 ≡ reverse held.items },
     ghost none_inside: { bare seat.me.1 ≡ true },
     ghost room: { keeper_count seat.me.0.profile ≤ vec_capacity held },
-    ghost within: { vec_len noted ≤ limit },
+    ghost within: { length noted.items ≤ limit },
     ghost limited: { limit ≤ vec_capacity noted },
     ghost few: { limit ≤ 2 ^ 58 },
 }

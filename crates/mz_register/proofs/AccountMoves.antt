@@ -93,10 +93,11 @@ module _ (L : DeskLaws) (s t : Account) (e : Event) (n : ℕ) (others : List Ent
   through : IsKnownThrough s.profile s.caller (holds_spot s) (state_of s) others
   through = L.known_through s.profile s.caller (holds_spot s) (state_of s) others away
 
-  then : State
-  then = after_all s.profile (state_of s) others
+  mid : State
+  mid = after_all s.profile (state_of s) others
 
-  state : state_of t ≡ after s.profile then s.caller e
+  state : state_of t ≡ after s.profile mid s.caller e
+  unfolding mid after_all
   state = ap state_of a ∙ (L.after_joined s.profile opening (s.seen ++ others) (entry_at n s.caller e ∷ []) ∙ (L.after_one s.profile (after_all s.profile opening (s.seen ++ others)) (entry_at n s.caller e)
       ∙ ap (λ (x : State). after s.profile x s.caller e) (L.after_joined s.profile opening s.seen others)))
 
@@ -107,13 +108,14 @@ module _ (L : DeskLaws) (s t : Account) (e : Event) (n : ℕ) (others : List Ent
   untouched (keeper_at q) h y = nano_touches s.profile e q y
   untouched (nano_page i) h y = absurd (false≢true h)
 
-  learns : (j : Spot) → holds_spot s j ≡ true → value_at (after s.profile then s.caller e) j ≡ (if touches s.profile e j then value_after (state_of s) s.caller e j else known s j)
+  learns : (j : Spot) → holds_spot s j ≡ true → value_at (after s.profile mid s.caller e) j ≡ (if touches s.profile e j then value_after (state_of s) s.caller e j else known s j)
   learns j h = ⊎_elim
       (λ (y : is_at_nano e ≡ true). let no = untouched j h y in through.untouched s.caller e j h no ∙ sym (ap (λ (b : Bool). if b then value_after (state_of s) s.caller e j else known s j) no))
       (λ (z : is_at_nano e ≡ false). through.leaves s.caller e (can.by_held z).held j h)
       (cases_Bool (is_at_nano e))
 
   pub notes : Notes s e n t
+  unfolding mid after_all
   notes = record {
     others = others;
     away = away;
@@ -121,5 +123,5 @@ module _ (L : DeskLaws) (s t : Account) (e : Event) (n : ℕ) (others : List Ent
     ticket = ticket;
     after = a;
     learns = λ j h. ap (λ (x : State). value_at x j) state ∙ learns j h;
-    zones = λ y. ap (λ (x : State). is_open x y) state ∙ (zones_stay s.profile then s.caller e no_zone y ∙ (through.zones y ∙ sym (as_it_was e y (is_open (state_of s) y) no_zone)));
+    zones = λ y. ap (λ (x : State). is_open x y) state ∙ (zones_stay s.profile mid s.caller e no_zone y ∙ (through.zones y ∙ sym (as_it_was e y (is_open (state_of s) y) no_zone)));
   }

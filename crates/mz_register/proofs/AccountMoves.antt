@@ -109,6 +109,7 @@ module _ (L : DeskLaws) (s t : Account) (e : Event) (n : ℕ) (others : List Ent
   untouched (nano_page i) h y = absurd (false≢true h)
 
   learns : (j : Spot) → holds_spot s j ≡ true → value_at (after s.profile mid s.caller e) j ≡ (if touches s.profile e j then value_after (state_of s) s.caller e j else known s j)
+  unfolding mid after_all
   learns j h = ⊎_elim
       (λ (y : is_at_nano e ≡ true). let no = untouched j h y in through.untouched s.caller e j h no ∙ sym (ap (λ (b : Bool). if b then value_after (state_of s) s.caller e j else known s j) no))
       (λ (z : is_at_nano e ≡ false). through.leaves s.caller e (can.by_held z).held j h)

@@ -27,7 +27,7 @@ use Rattle.mz_register.specs.declared.pass.Pass.{Pass}
 use Rattle.mz_register.specs.Passes.{table_numbers, IsOf, IsRested, IsKnowing, is_light_of}
 use Rattle.mz_register.specs.Accounts.{pass_account}
 use Rattle.mz_register.specs.Seats.{IsSeatOf}
-use Rattle.mz_register.proofs.Rests.{none_of, record_of, ascending_push, all_push, fresh, all_set, all_insert, all_dropped}
+use Rattle.mz_register.proofs.Rests.{none_of, ascending_push, all_push, fresh, all_set, all_insert, all_dropped}
 
 table_from : List ℕ → TableId
 table_from ns = record { words = get_or ns 0 0; slots = get_or ns 1 0; views_name = get_or ns 2 0; atom = get_or ns 3 0; block = get_or ns 4 0; offset = get_or ns 5 0; slot_names = drop 6 ns }
@@ -38,25 +38,6 @@ same_table x y e = ap table_from e
 
 pub seat_is : {V : Type 0} (z : TableId) (p : Profile) (x : Pass V) → IsOf z p (pass_account x) → IsSeatOf z p x.seat
 seat_is z p x o = record { table = same_table x.seat.table_id z o.name; profile = o.profile }
-
-pub orderly : {V : Type 0} (x : Pass V) → IsOrderly (pass_account x)
-orderly x =
-    let v = x.seat.me.0 in
-    let r = x.rested in
-    let k = x.knowing in
-    record {
-      limits = k.limits;
-      caller = k.caller;
-      lawful = k.lawful;
-      recorded = record_of v k.recorded;
-      ascending = r.ascending;
-      below = r.below;
-      few = let n = ap length r.noted_is in let w = x.within in let f = x.few in omega arith;
-      counted = k.counted;
-      owned = k.owned;
-      settled = r.sized;
-      classes = r.classes;
-    }
 
 pub can_lock : {V : Type 0} (x : Pass V) (k : ℕ) → CanHold (pass_account x) k → CanLock x.seat.me.0 k
 can_lock x k can = record { idle = record { live = x.rested.live; none = none_of x.seat.me.0.taking x.rested.none_taking }; fresh = fresh x.seat.me.0.held k can.above_held; exists = can.exists }

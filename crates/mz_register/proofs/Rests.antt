@@ -1,10 +1,9 @@
 -- What a pass keeps after a step of its seat.
-use Rattle.std.proofs.Common.{◌≡◌, ℕ, ◌+◌, ◌-◌, ◌*◌, ◌^◌, ◌<◌, ◌≤◌, ◌==◌, Bool, true, false, cond, not, List, [], ◌∷◌, ◌++◌, length, take, drop, set, refl, sym, ap, ◌∙◌, subst, arith, zero, suc, length-append, ⊎_elim, ◌⊎◌, if◌then◌else◌}
+use Rattle.std.proofs.Common.{◌≡◌, ℕ, ◌+◌, ◌-◌, ◌*◌, ◌^◌, ◌<◌, ◌≤◌, ◌==◌, Bool, true, false, cond, not, List, [], ◌∷◌, ◌++◌, length, drop, set, refl, sym, ap, ◌∙◌, subst, arith, zero, suc, length-append, ⊎_elim, ◌⊎◌, if◌then◌else◌}
 use Rattle.std.specs.Prelude.{nat_lt, nat_le, ◌&&◌, filter}
 use Rattle.std.specs.List.{list_all}
 use Rattle.std.proofs.lemmas.Bool.{false≢true, and_parts, and_from, eqb-true, cases_Bool}
 use Rattle.std.proofs.lemmas.Bool.Decides.{nat_tests}
-use Rattle.std.proofs.lemmas.List.{take-append-drop}
 use Rattle.std.proofs.Math.Seq.{drop-append_seam}
 use Rattle.mz_events.specs.declared.entry.Entry.{Entry}
 use Rattle.mz_events.specs.Hands.{own}
@@ -29,11 +28,6 @@ last_of v r =
     let n : length (own v.caller v.seen) ≡ length r.before + length v.noted = ap length r.is ∙ length-append r.before v.noted in
     let d : length (own v.caller v.seen) - length v.noted ≡ length r.before = omega arith in
     ap (λ (k : ℕ). drop k (own v.caller v.seen)) d ∙ (ap (drop (length r.before)) r.is ∙ drop-append_seam r.before v.noted)
-
-pub record_of : (v : View) → last_own v ≡ v.noted → IsRecord v.caller v.seen v.noted
-record_of v e =
-    let k : ℕ = length (own v.caller v.seen) - length v.noted in
-    record { before = take k (own v.caller v.seen); is = sym (take-append-drop k (own v.caller v.seen)) ∙ ap (λ (es : List Entry). take k (own v.caller v.seen) ++ es) e }
 
 pub knowing_of : (v : View) → Knows v → length v.joined ≡ 0 → IsKnowing v
 knowing_of v k n = record { limits = k.limits; caller = k.caller; lawful = k.lawful; recorded = last_of v k.recorded; counted = k.counted; owned = k.owned (none_of v.joined n) }

@@ -2,3 +2,4 @@ pub mod Seats
 pub mod Codes
 pub mod Passes
 pub mod Accounts
+pub mod Orderly

@@ -29,6 +29,7 @@
 
 
 mod calls;
+pub mod desk;
 mod find;
 mod hold;
 pub mod pass;
@@ -38,5 +39,6 @@ mod steps;
 
 pub use mz_book::{Asked, Book, Found, Light, Pair, PlainBook};
 
+pub use desk::Desk;
 pub use pass::{Pass, Taken};
 pub use register::Register;

@@ -7,7 +7,8 @@ use Rattle.mz_desk.specs.declared.view.View.{View}
 use Rattle.mz_desk.specs.Views.{view_account}
 use Rattle.mz_register.specs.Passes.{table_numbers, IsRested, IsKnowing, keys, bare}
 use Rattle.mz_register.specs.Accounts.{pass_account}
-use Rattle.mz_register.proofs.PassLemmas.{orderly, rested_lit, knowing_same}
+use Rattle.mz_register.specs.Orderly.{orderly}
+use Rattle.mz_register.proofs.PassLemmas.{rested_lit, knowing_same}
 use Rattle.mz_register.proofs.pass.Pass.hold_light.Goals as goal
 
 pub try_light-word-requires-clause-can : goal.try_light-word-requires-clause-can

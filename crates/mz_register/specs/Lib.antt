@@ -3,3 +3,4 @@ pub mod Codes
 pub mod Passes
 pub mod Accounts
 pub mod Orderly
+pub mod Opened

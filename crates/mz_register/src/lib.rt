@@ -25,17 +25,14 @@
 //! book. Waiting is in `hold` alone, which tries again, and lets other threads run between two tries.
 #![tactic(auto)]
 
-
-
-
 mod calls;
 pub mod desk;
 mod find;
 mod hold;
+pub mod open;
 pub mod pass;
 pub mod register;
 mod steps;
-
 
 pub use mz_book::{Asked, Book, Found, Light, Pair, PlainBook};
 

@@ -4,3 +4,4 @@ mod Rests
 mod AccountMoves
 mod SeatCalls
 mod PassLemmas
+mod OpenLemmas

@@ -5,3 +5,5 @@ mod AccountMoves
 mod SeatCalls
 mod PassLemmas
 mod OpenLemmas
+mod WordLemmas
+mod FirstLemmas

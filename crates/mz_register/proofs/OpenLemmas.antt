@@ -26,8 +26,8 @@ use Rattle.mz_register.specs.Opened.{IsNew, IsGiver, AreNew, IsBlank, AreBlank}
 -- the pairs of one number, and those of the others
 
 cons_case : (x : Pair) (ys : List Pair) (d : Bool) → length (cond d (x ∷ ys) ys) ≡ length (cond d (x ∷ []) []) + length ys
-cons_case x ys true = refl
-cons_case x ys false = refl
+cons_case x ys true = omega arith
+cons_case x ys false = omega arith
 
 owners_cons : (x : Pair) (xs : List Pair) (b : Block) → owners (x ∷ xs) b ≡ owners (x ∷ []) b + owners xs b
 owners_cons x xs b = cons_case x (filter (λ h. same_block b (block_of h)) xs) (same_block b (block_of x))
@@ -59,13 +59,16 @@ pairs_twice : (c : ℕ) (hs : List Pair) → pairs_of c (pairs_of c hs) ≡ pair
 pairs_twice c [] = refl
 pairs_twice c (x ∷ xs) = twice_case c x (pairs_of c xs) (x.caller == c) refl (pairs_twice c xs)
 
-all_zeros : (n : ℕ) → list_all (λ k. nat_le k 16) (replicate n 0) ≡ true
+pub all_zeros : (n : ℕ) → list_all (λ k. nat_le k 16) (replicate n 0) ≡ true
 all_zeros zero = refl
 all_zeros (suc n) = all_zeros n
 
-none_left : {A : Type 0} (xs : List A) → drop (length xs - 0) xs ≡ []
-none_left [] = refl
-none_left (x ∷ xs) = none_left xs
+dropped : {A : Type 0} (xs : List A) → drop (length xs) xs ≡ []
+dropped [] = refl
+dropped (x ∷ xs) = dropped xs
+
+pub none_left : {A : Type 0} (xs : List A) → drop (length xs - 0) xs ≡ []
+none_left xs = ap (λ (n : ℕ). drop n xs) (omega arith) ∙ dropped xs
 
 -- seat 0 after it gave a number
 

@@ -51,7 +51,7 @@ module _ {V : Type 0} (keeping : V → Keeping) (key : Opened) (later : List Ent
     timed = f.timed;
     owned = f.owned;
     whose = f.whose;
-        hand = f.hand;
+    hand = f.hand;
     lights = λ b j h. let o = f.lights b j h in (o.0, o.1, r.light b j o.0 o.1 o.2);
     sized = f.sized;
     settled = λ b n.

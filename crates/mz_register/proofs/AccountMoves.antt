@@ -1,5 +1,5 @@
 -- What a call does to the account of a pass, as the trait says it.
-use Rattle.std.proofs.Common.{◌≡◌, ℕ, ◌+◌, ◌-◌, ◌<◌, ◌≤◌, Bool, true, false, List, [], ◌∷◌, ◌++◌, length, Option, Some, None, if◌then◌else◌, refl, sym, ap, ◌∙◌, subst, arith, inl, inr, ⊎_elim}
+use Rattle.std.proofs.Common.{◌≡◌, ℕ, ◌-◌, Bool, true, false, List, [], ◌∷◌, ◌++◌, length, None, if◌then◌else◌, refl, sym, ap, ◌∙◌, ⊎_elim}
 use Rattle.std.proofs.lemmas.Bool.{false≢true, cases_Bool}
 use Rattle.mz_base.specs.declared.profile.Profile.{Profile}
 use Rattle.mz_events.specs.declared.entry.Entry.{Entry}
@@ -7,12 +7,12 @@ use Rattle.mz_events.specs.declared.event.Event.{Event}
 use Rattle.mz_events.specs.declared.event.Event.TheVariants.{Take, Back, Move, New, End, Size, Full, Dry, No, Open, Shut}
 use Rattle.mz_events.specs.declared.place.Place.{Place}
 use Rattle.mz_events.specs.declared.place.Place.TheVariants.{Pages, Tiny, TinyDepot, Small, SmallDepot, Large, Nano}
-use Rattle.mz_events.specs.Places.{Spot, keeper_at, nano_page, is_nano}
+use Rattle.mz_events.specs.Places.{Spot, keeper_at, nano_page}
 use Rattle.mz_events.specs.State.{State, value_at, is_open, opening}
 use Rattle.mz_events.specs.Effect.{touches, value_after, after}
-use Rattle.mz_events.specs.History.{after_all, after_entry}
+use Rattle.mz_events.specs.History.{after_all}
 use Rattle.mz_events.specs.Holding.{changes_zones, AreAway, IsKnownThrough}
-use Rattle.mz_book.specs.Keepers.{keeper_spot, is_held}
+use Rattle.mz_book.specs.Keepers.{keeper_spot}
 use Rattle.mz_book.specs.Pairs.{pairs_after}
 use Rattle.mz_book.specs.Account.{Account, state_of, known, holds_spot, entry_at}
 use Rattle.mz_book.specs.Calls.{is_at_nano, CanNote, Gains, Notes, opened_after}

@@ -1,6 +1,6 @@
 -- The slots that a seat carries.
 use Rattle.std.proofs.Common.{◌≡◌, ℕ, Bool, true, false, ◌&&◌, List, [], ◌∷◌, ◌++◌, Option, Some, None, reverse, take, drop, length, zero, suc, ◌+◌, ◌-◌, ◌<◌, ◌≤◌, arith, get_or, length-drop, length-take-le, append_assoc, refl, sym, ap, ◌∙◌, subst, eq-eqb, ne_eqb}
-use Rattle.std.specs.Prelude.{nat_le, nat_lt}
+use Rattle.std.specs.Prelude.{nat_le}
 use Rattle.std.proofs.lemmas.Bool.{false≢true, and_parts}
 use Rattle.std.proofs.lemmas.Bool.Decides.{nat_tests}
 use Rattle.std.proofs.lemmas.List.{reverse-append, length-reverse}
@@ -100,7 +100,7 @@ turn_next {A} l t h =
     let s : suc t ≡ t + 1 = omega arith in
     let k : take (suc t) l ≡ take t l ++ x.0 ∷ [] = take_one l t x.0 x.1 in
     ap (λ (ys : List (ℕ × A)). turned (ys ++ take t l)) d
-        ∙ (append_assoc (drop (suc t) l) (take t l) (x.0 ∷ []) ∙ (ap (λ (ys : List (ℕ × A)). drop (suc t) l ++ ys) (sym k) ∙ ap (λ (n : ℕ). drop n l ++ take n l) s))
+    ∙ (append_assoc (drop (suc t) l) (take t l) (x.0 ∷ []) ∙ (ap (λ (ys : List (ℕ × A)). drop (suc t) l ++ ys) (sym k) ∙ ap (λ (n : ℕ). drop n l ++ take n l) s))
 
 keys_append : {A : Type 0} (xs ys : List (ℕ × A)) → keys (xs ++ ys) ≡ keys xs ++ keys ys
 keys_append [] ys = refl
@@ -160,10 +160,10 @@ round hs hs' i k l same lt at carried b =
     let lt' : i < length hs = subst (λ (zs : List ℕ). i < length zs) same lt in
     let is = parts hs i k lt' (ap (λ (zs : List ℕ). get_or zs i 0) (sym same) ∙ at) in
     record {
-        is = is;
-        behind = omega (arith, length-reverse (drop (i + 1) hs), length-drop (i + 1) hs);
-        ahead = omega (arith, length-reverse (take i hs), length-take-le i hs);
-        cut = carried ∙ (ap reverse is ∙ reverse_parts (take i hs) (drop (i + 1) hs) k);
-        bare_all = b;
-        size = omega (arith, keys_length l, ap length carried, length-reverse hs);
+      is = is;
+      behind = omega (arith, length-reverse (drop (i + 1) hs), length-drop (i + 1) hs);
+      ahead = omega (arith, length-reverse (take i hs), length-take-le i hs);
+      cut = carried ∙ (ap reverse is ∙ reverse_parts (take i hs) (drop (i + 1) hs) k);
+      bare_all = b;
+      size = omega (arith, keys_length l, ap length carried, length-reverse hs);
     }

@@ -1,16 +1,14 @@
 -- The first pass, and all passes once they are dealt.
-use Rattle.std.proofs.Common.{◌≡◌, ℕ, ◌+◌, ◌-◌, ◌*◌, ◌^◌, ◌<◌, ◌≤◌, ◌⊎◌, List, [], ◌∷◌, length, replicate, map, Option, Some, None, refl, sym, ap, ◌∙◌, subst, arith, inl, inr, zero, suc}
+use Rattle.std.proofs.Common.{◌≡◌, ℕ, ◌+◌, List, [], ◌∷◌, length, map, Option, Some, None, refl, sym, ap, ◌∙◌, subst, arith, inl, zero, suc}
 use Rattle.std.specs.Prelude.{slice_get}
 use Rattle.std.proofs.lemmas.List.{length-replicate}
 use Rattle.atomic_table.specs.Seated.{TableId}
-use Rattle.mz_base.specs.declared.profile.Profile.{Profile}
 use Rattle.mz_events.specs.Hands.{own}
 use Rattle.mz_events.specs.Standing.{Keeping}
 use Rattle.mz_book.specs.declared.parts.Parts.{Parts}
 use Rattle.mz_book.specs.Pairs.{block_of, hand_among}
 use Rattle.mz_book.specs.Parts.{FitTogether, account_in}
-use Rattle.mz_desk.specs.declared.view.View.{View}
-use Rattle.mz_desk.specs.Views.{Opened, first_view, site_at, pairs_of}
+use Rattle.mz_desk.specs.Views.{Opened, first_view, site_at}
 use Rattle.mz_desk.specs.Keys.{opened_as}
 use Rattle.mz_register.specs.declared.pass.Pass.{Pass}
 use Rattle.mz_register.specs.Passes.{table_numbers, IsRested, IsKnowing}

@@ -1,12 +1,11 @@
 -- Seats are dealt from seat 0, as a register is opened.
-use Rattle.std.proofs.Common.{◌≡◌, ◌≢◌, ℕ, ◌+◌, ◌-◌, ◌*◌, ◌^◌, ◌<◌, ◌≤◌, ◌==◌, Bool, true, false, cond, not, ◌⊎◌, List, [], ◌∷◌, ◌++◌, length, drop, replicate, map, Vec, refl, sym, ap, ◌∙◌, subst, arith, inl, inr, ⊎_elim, zero, suc, eq-eqb, ne_eqb, length-drop}
+use Rattle.std.proofs.Common.{◌≡◌, ◌≢◌, ℕ, ◌+◌, ◌-◌, ◌<◌, ◌≤◌, ◌==◌, Bool, true, false, cond, not, List, [], ◌∷◌, ◌++◌, length, drop, replicate, map, Vec, refl, sym, ap, ◌∙◌, subst, arith, inl, inr, ⊎_elim, zero, suc, ne_eqb}
 use Rattle.std.specs.Prelude.{filter, nat_le}
 use Rattle.std.specs.List.{list_all}
 use Rattle.std.specs.declared.alloc.Global.{Global}
 use Rattle.std.proofs.lemmas.List.{length-replicate}
-use Rattle.std.proofs.lemmas.Bool.{cases_Bool, false≢true, eqb-true}
+use Rattle.std.proofs.lemmas.Bool.{cases_Bool, eqb-true}
 use Rattle.mz_base.specs.Space.{Block, same_block}
-use Rattle.mz_base.specs.declared.profile.Profile.{Profile}
 use Rattle.mz_events.specs.declared.entry.Entry.{Entry}
 use Rattle.mz_events.specs.State.{opening}
 use Rattle.mz_events.specs.Changes.{one_for}
@@ -20,7 +19,7 @@ use Rattle.mz_desk.specs.Views.{Opened, pairs_of, pairs_besides}
 use Rattle.mz_desk.specs.Seats.{giver, given_view}
 use Rattle.mz_register.specs.declared.pass.Pass.{Pass}
 use Rattle.atomic_table.specs.Seated.{TableId}
-use Rattle.mz_register.specs.Passes.{last_own, IsRested, IsKnowing}
+use Rattle.mz_register.specs.Passes.{IsRested, IsKnowing}
 use Rattle.mz_register.specs.Opened.{IsNew, IsGiver, AreNew, IsBlank, AreBlank}
 
 -- the pairs of one number, and those of the others

@@ -1,5 +1,5 @@
 -- What a pass keeps says that its account is orderly, and which seat it has.
-use Rattle.std.proofs.Common.{◌≡◌, ℕ, ◌+◌, ◌-◌, ◌*◌, ◌^◌, ◌<◌, ◌≤◌, true, List, [], ◌∷◌, ◌++◌, length, drop, get_or, Option, arith, refl, sym, ap, ◌∙◌, subst, length-append, length-set}
+use Rattle.std.proofs.Common.{◌≡◌, ℕ, ◌+◌, ◌-◌, ◌*◌, ◌^◌, ◌<◌, ◌≤◌, true, List, [], ◌∷◌, ◌++◌, length, drop, get_or, arith, refl, sym, ap, ◌∙◌, subst, length-append, length-set}
 use Rattle.std.specs.Prelude.{nat_lt, nat_le}
 use Rattle.std.specs.List.{list_all}
 use Rattle.std.proofs.lemmas.Bool.{and_from}
@@ -8,7 +8,7 @@ use Rattle.atomic_table.specs.Seated.{TableId}
 use Rattle.mz_base.specs.declared.profile.Profile.{Profile}
 use Rattle.mz_events.specs.declared.entry.Entry.{Entry}
 use Rattle.mz_events.specs.declared.event.Event.{Event}
-use Rattle.mz_book.specs.Account.{Account, IsOrderly, is_ascending, entry_at, is_live}
+use Rattle.mz_book.specs.Account.{is_ascending, entry_at, is_live}
 use Rattle.mz_base.specs.Limits.{IsWithinLimits}
 use Rattle.mz_events.specs.State.{opening}
 use Rattle.mz_events.specs.Changes.{one_for}
@@ -16,7 +16,7 @@ use Rattle.mz_events.specs.History.{AreLawful, after_all}
 use Rattle.mz_events.specs.Hands.{own}
 use Rattle.mz_book.specs.Pairs.{owners}
 use Rattle.mz_book.specs.Lights.{light_at, light_number, add_light}
-use Rattle.mz_book.specs.Keepers.{keeper_count, is_among}
+use Rattle.mz_book.specs.Keepers.{keeper_count}
 use Rattle.mz_book.specs.Calls.{CanHold, without}
 use Rattle.mz_desk.specs.declared.view.View.{View}
 use Rattle.mz_desk.specs.declared.view.Clash.{Clash}

@@ -1,5 +1,5 @@
 -- Where words stand.
-use Rattle.std.proofs.Common.{ℕ, ◌+◌, ◌*◌, ◌<◌, ◌≤◌, arith}
+use Rattle.std.proofs.Common.{ℕ, ◌<◌, arith}
 use Rattle.mz_base.specs.declared.profile.Profile.{Profile}
 use Rattle.mz_desk.specs.Words.{slot_place, word_count}
 

@@ -1,11 +1,10 @@
 -- What a pass keeps after a step of its seat.
 use Rattle.std.proofs.Common.{◌≡◌, ℕ, ◌+◌, ◌-◌, ◌*◌, ◌^◌, ◌<◌, ◌≤◌, ◌==◌, Bool, true, false, cond, not, List, [], ◌∷◌, ◌++◌, length, drop, set, refl, sym, ap, ◌∙◌, subst, arith, zero, suc, length-append, ⊎_elim, ◌⊎◌, if◌then◌else◌}
-use Rattle.std.specs.Prelude.{nat_lt, nat_le, ◌&&◌, filter}
+use Rattle.std.specs.Prelude.{nat_lt, nat_le}
 use Rattle.std.specs.List.{list_all}
 use Rattle.std.proofs.lemmas.Bool.{false≢true, and_parts, and_from, eqb-true, cases_Bool}
 use Rattle.std.proofs.lemmas.Bool.Decides.{nat_tests}
 use Rattle.std.proofs.Math.Seq.{drop-append_seam}
-use Rattle.mz_events.specs.declared.entry.Entry.{Entry}
 use Rattle.mz_events.specs.Hands.{own}
 use Rattle.mz_book.specs.Account.{is_ascending, IsRecord}
 use Rattle.mz_book.specs.Keepers.{is_among}

@@ -1,9 +1,8 @@
 -- A keeper is locked, and then taken.
-use Rattle.std.proofs.Common.{◌≡◌, ℕ, ◌+◌, ◌-◌, List, ◌∷◌, Option, arith, refl, sym, ap, ◌∙◌, subst}
+use Rattle.std.proofs.Common.{◌≡◌, ℕ, ◌+◌, List, arith, sym, ap, ◌∙◌, subst}
 use mathlib.Core.Option.{none}
 use Rattle.atomic_table.specs.Table.{step}
 use Rattle.mz_events.specs.Standing.{Keeping}
-use Rattle.mz_desk.specs.declared.view.View.{View}
 use Rattle.mz_desk.specs.declared.view.Clash.{Clash}
 use Rattle.mz_desk.specs.Views.{locked}
 use Rattle.mz_desk.specs.Needs.{Seated}

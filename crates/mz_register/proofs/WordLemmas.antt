@@ -1,6 +1,6 @@
 -- The words of a register that is opened.
-use Rattle.std.proofs.Common.{◌≡◌, ℕ, ◌+◌, ◌*◌, ◌^◌, ◌<◌, ◌≤◌, Bool, true, false, List, [], ◌∷◌, ◌++◌, length, replicate, map, get_or, Option, Some, None, is_none, refl, sym, ap, ◌∙◌, subst, arith, zero, suc, length-append, mul-le-mul_right}
-use Rattle.std.specs.Prelude.{nat_le, slice_get}
+use Rattle.std.proofs.Common.{◌≡◌, ℕ, ◌+◌, ◌*◌, ◌<◌, ◌≤◌, Bool, true, List, [], ◌∷◌, ◌++◌, length, replicate, map, get_or, Option, Some, None, is_none, refl, sym, ap, ◌∙◌, subst, arith, zero, suc, length-append, mul-le-mul_right}
+use Rattle.std.specs.Prelude.{nat_le}
 use Rattle.std.specs.List.{list_all}
 use Rattle.std.proofs.lemmas.List.{length-replicate, get_or_append_left, get_or-append-add, get_or-replicate}
 use Rattle.std.proofs.lemmas.Bool.{false≢true, and_parts}
@@ -10,20 +10,14 @@ use lib.ListN.{get_elem?}
 use Rattle.atomic_table.proofs.Lists.{at_map}
 use Rattle.mz_base.specs.declared.profile.Profile.{Profile}
 use Rattle.mz_base.specs.Limits.{IsWithinLimits}
-use Rattle.mz_base.specs.Space.{Block}
-use Rattle.mz_base.specs.Lists.{has_block}
-use Rattle.mz_events.specs.Places.{nano_page}
-use Rattle.mz_events.specs.State.{State, opening, value_at, kept_at}
-use Rattle.mz_events.specs.Changes.{one_for}
-use Rattle.mz_events.specs.History.{after_all}
+use Rattle.mz_events.specs.State.{value_at}
 use Rattle.mz_events.specs.Standing.{Keeping, Stands}
 use Rattle.mz_book.specs.declared.parts.Parts.{Parts}
 use Rattle.mz_book.specs.Keepers.{keeper_count, keeper_spot, place_at}
-use Rattle.mz_book.specs.Lights.{slot_size, page_of_block, is_slot_live}
+use Rattle.mz_book.specs.Lights.{slot_size}
 use Rattle.mz_book.specs.Parts.{site_in, state_in, FitTogether}
 use Rattle.mz_book.specs.Rule.{IsThere}
-use Rattle.mz_desk.specs.declared.view.Opening.{Opening}
-use Rattle.mz_desk.specs.Words.{lock_word, class_word, light_word, word_count}
+use Rattle.mz_desk.specs.Words.{lock_word, class_word, light_word}
 use Rattle.mz_desk.specs.Views.{Opened}
 use Rattle.mz_desk.specs.Keys.{opened_as}
 use Rattle.mz_desk.specs.Rule.{AtHome, ClassesKeep}
@@ -54,7 +48,7 @@ slot_at : (n k c i : ℕ) (cs ss : List ℕ) → length cs ≡ c → get_or (all
 slot_at n k c i cs ss e =
     let at : k + 1 + c + i ≡ 1 + (length (free k) + (length cs + i)) = omega (arith, free_length k) in
     ap (λ (x : ℕ). get_or (all_words n k cs ss) x 0) at
-        ∙ (get_or-append-add (n ∷ []) (free k ++ (cs ++ ss)) (length (free k) + (length cs + i)) 0 ∙ (get_or-append-add (free k) (cs ++ ss) (length cs + i) 0 ∙ get_or-append-add cs ss i 0))
+    ∙ (get_or-append-add (n ∷ []) (free k ++ (cs ++ ss)) (length (free k) + (length cs + i)) 0 ∙ (get_or-append-add (free k) (cs ++ ss) (length cs + i) 0 ∙ get_or-append-add cs ss i 0))
 
 pub word_length : (n k : ℕ) (cs ss : List ℕ) → length (all_words n k cs ss) ≡ k + 1 + length cs + length ss
 word_length n k cs ss = omega (arith, free_length k, length-append (free k) (cs ++ ss), length-append cs ss)

@@ -1,7 +1,7 @@
 -- What a pass keeps between its calls. This project's own.
 use Rattle.std.specs.Prelude.{◌≡◌, ℕ, ◌+◌, ◌-◌, ◌*◌, ◌^◌, ◌<◌, ◌≤◌, Bool, true, false, nat_lt, nat_le, ◌&&◌, List, [], ◌∷◌, length, drop, Option, Some, None}
 use Rattle.std.specs.List.{list_all}
-use Rattle.std.specs.Coded.{Coded-set, coded_ℕ, coded_bool, coded_list, ×_prop, Π_prop, le_prop}
+use Rattle.std.specs.Coded.{Coded-set, coded_ℕ, coded_bool, coded_list, Π_prop, le_prop}
 use Rattle.atomic_table.specs.Seated.{TableId}
 use Rattle.mz_base.specs.declared.profile.Profile.{Profile}
 use Rattle.mz_base.specs.Limits.{IsWithinLimits}

@@ -101,12 +101,7 @@ impl<V: Keep + Drop> Pass<V> {
         self.held.remove(i);
     }
 
-    pub(crate) fn settle(
-        &mut self,
-        register: &Register<V>,
-        b: u64,
-        class: u64,
-    ) -> Result<(), Found>
+    pub(crate) fn settle(&mut self, register: &Register<V>, b: u64, class: u64) -> Result<(), Found>
         requires of { IsOf register.now.table.shared.table_id register.now.opening.profile (pass_account self.old) }
         requires can { CanSettle (pass_account self.old) b class }
         ensures table { self.new.seat.table_id ≡ self.old.seat.table_id }

@@ -34,8 +34,10 @@ pub mod pass;
 pub mod register;
 mod steps;
 
-pub use mz_book::{Asked, Book, Found, Light, Pair, PlainBook};
-
 pub use desk::Desk;
+pub use mz_book::{Asked, Book, Found, Light, Pair, PlainBook};
 pub use pass::{Pass, Taken};
 pub use register::Register;
+
+#[cfg(test)]
+mod tests;

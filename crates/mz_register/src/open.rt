@@ -43,13 +43,7 @@ fn blanks(alloc: Global, callers: u32, keepers: usize) -> Result<Vec<Vec<usize>>
 
 impl<V: Keep + Drop> Register<V> {
     // The pass of the next caller, from that of caller 0.
-    fn another(
-        &self,
-        alloc: Global,
-        first: &mut Pass<V>,
-        caller: u32,
-        held: Vec<usize>,
-    ) -> Pass<V>
+    fn another(&self, alloc: Global, first: &mut Pass<V>, caller: u32, held: Vec<usize>) -> Pass<V>
         requires first { IsFirst self.now.table.shared.table_id (opened_as V.keeping self.now.table.shared.key) caller first.old }
         requires more { (1 ≤ caller) × (caller < self.now.opening.profile.callers) }
         requires held { IsBlank (keeper_count self.now.opening.profile) held }
@@ -98,10 +92,7 @@ impl<V: Keep + Drop> Register<V> {
     }
 
     // The same from parts, which come back where there is no memory.
-    fn of_parts(
-        alloc: Global,
-        parts: Parts<V>,
-    ) -> Result<(Register<V>, Vec<Pass<V>>), Parts<V>>
+    fn of_parts(alloc: Global, parts: Parts<V>) -> Result<(Register<V>, Vec<Pass<V>>), Parts<V>>
         requires { FitTogether V.keeping parts }
         ensures ok { IfOk result (λ r. IsOpened (account_in V.keeping parts) r.0.table.shared.table_id r.0.opening.profile r.1.items) }
         ensures err { IfErr result (λ q. FitTogether V.keeping q × (account_in V.keeping q ≡ account_in V.keeping parts)) }

@@ -158,9 +158,7 @@ impl<V: Keep + Drop> Register<V> {
     {
         steps::store_light::<V>();
         let place = self.slot_place(b, j);
-        self.table
-            .shared
-            .store::<StoreLight<S>>(seat, place, word);
+        self.table.shared.store::<StoreLight<S>>(seat, place, word);
     }
 
     // Stores the word of a slot whose light the seat holds.

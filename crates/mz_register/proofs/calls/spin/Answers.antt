@@ -1,4 +1,4 @@
-use Rattle.std.proofs.Common.{◌≡◌, ◌<◌, ◌+◌, ◌++◌, take, drop, length, ap, ◌∙◌, arith, sym}
+use Rattle.std.proofs.Common.{ap, ◌∙◌, arith}
 use Rattle.atomic_table.specs.Table.{turned}
 use Rattle.mz_register.proofs.Carried.{turn_next}
 use Rattle.mz_register.proofs.calls.spin.Goals as goal

@@ -1,4 +1,4 @@
-use Rattle.std.proofs.Common.{ℕ, ◌<◌, arith}
+use Rattle.std.proofs.Common.{arith}
 use Rattle.mz_register.proofs.Carried.{found_in}
 use Rattle.mz_register.proofs.find.find.Goals as goal
 

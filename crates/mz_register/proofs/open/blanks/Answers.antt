@@ -1,4 +1,4 @@
-use Rattle.std.proofs.Common.{◌≡◌, ◌+◌, [], ◌∷◌, length, arith, sym, ap, ◌∙◌, subst, length-append}
+use Rattle.std.proofs.Common.{[], ◌∷◌, length, arith, sym, ap, subst, length-append}
 use Rattle.mz_register.specs.Opened.{AreBlank}
 use Rattle.mz_register.proofs.OpenLemmas.{blank_more}
 use Rattle.mz_register.proofs.open.blanks.Goals as goal

@@ -1,4 +1,4 @@
-use Rattle.std.proofs.Common.{◌≡◌, ℕ, ◌+◌, ◌*◌, List, get_or, sym, subst}
+use Rattle.std.proofs.Common.{ℕ, ◌+◌, ◌*◌, List, get_or, subst}
 use Rattle.mz_events.specs.State.{opening}
 use Rattle.mz_events.specs.History.{after_all}
 use Rattle.mz_book.specs.Pairs.{hand_among}
@@ -33,4 +33,3 @@ returns-clause-fit g c =
       words = λ i j li lj. free_word b.caller (get_or b.slots.items (i * 1024 + j) 0) (is_slot_live b.profile st i j) (has_slot b.profile (hand_among b.caller (pairs_told b.quanta.items b.history.items)) i j)
           (unlit_words 0 b.slots.items c.requires.lights (i * 1024 + j)) (b.words i j li lj);
     }
-

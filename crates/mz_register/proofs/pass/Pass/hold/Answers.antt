@@ -1,17 +1,14 @@
-use Rattle.std.proofs.Common.{◌≡◌, ℕ, ◌+◌, ◌-◌, ◌<◌, ◌≤◌, Bool, true, false, List, [], ◌∷◌, ◌++◌, length, reverse, get_or, Option, Some, None, if◌then◌else◌, arith, refl, sym, ap, ◌∙◌, subst, inl, inr}
-use Rattle.mz_events.specs.declared.entry.Entry.{Entry}
-use Rattle.mz_base.specs.declared.profile.Profile.{Profile}
+use Rattle.std.proofs.Common.{ℕ, ◌-◌, List, [], ◌∷◌, ◌++◌, length, reverse, None, arith, refl, sym, ap, ◌∙◌, subst}
 use Rattle.mz_book.specs.Keepers.{keeper_count}
-use Rattle.mz_book.specs.Account.{Account, entry_at}
 use Rattle.mz_desk.specs.declared.view.View.{View}
 use Rattle.mz_desk.specs.Views.{view_account}
-use Rattle.mz_register.specs.Passes.{table_numbers, IsRested, IsKnowing, keys, bare}
+use Rattle.mz_register.specs.Passes.{table_numbers, IsRested, keys, bare}
 use Rattle.mz_register.specs.Accounts.{pass_account}
 use Rattle.std.proofs.lemmas.List.{reverse-append}
 use Rattle.mz_book.specs.Account.{StandsFor}
 use Rattle.mz_register.proofs.Rests.{knowing_of}
 use Rattle.mz_register.proofs.AccountMoves.{gains}
-use Rattle.mz_register.proofs.PassLemmas.{can_lock, few_held, rested_looked, seat_is}
+use Rattle.mz_register.proofs.PassLemmas.{can_lock, few_held, rested_looked}
 use Rattle.mz_register.proofs.pass.Pass.hold.Goals as goal
 
 pub hold-keeper-requires-clause-can : goal.hold-keeper-requires-clause-can

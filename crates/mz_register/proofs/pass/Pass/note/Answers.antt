@@ -1,11 +1,6 @@
-use Rattle.std.proofs.Common.{◌≡◌, ℕ, ◌+◌, ◌-◌, ◌<◌, ◌≤◌, Bool, true, false, List, [], ◌∷◌, ◌++◌, length, reverse, get_or, Option, Some, None, if◌then◌else◌, arith, refl, sym, ap, ◌∙◌, subst, inl, inr, length-append}
-use Rattle.mz_events.specs.declared.entry.Entry.{Entry}
-use Rattle.mz_base.specs.declared.profile.Profile.{Profile}
-use Rattle.mz_book.specs.Keepers.{keeper_count}
-use Rattle.mz_book.specs.Account.{Account, entry_at}
-use Rattle.mz_desk.specs.declared.view.View.{View}
+use Rattle.std.proofs.Common.{◌≡◌, ◌-◌, [], ◌∷◌, length, arith, refl, ap, length-append}
 use Rattle.mz_desk.specs.Views.{view_account}
-use Rattle.mz_register.specs.Passes.{table_numbers, IsRested, IsKnowing, keys, bare}
+use Rattle.mz_register.specs.Passes.{table_numbers}
 use Rattle.mz_register.specs.Accounts.{pass_account}
 use Rattle.mz_register.proofs.AccountMoves.{notes}
 use Rattle.mz_register.proofs.pass.Pass.note.Goals as goal

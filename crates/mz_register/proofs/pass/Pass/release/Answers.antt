@@ -1,19 +1,16 @@
-use Rattle.std.proofs.Common.{◌≡◌, ℕ, ◌+◌, ◌-◌, ◌<◌, ◌≤◌, Bool, true, false, List, [], ◌∷◌, ◌++◌, length, reverse, get_or, Option, Some, None, if◌then◌else◌, arith, refl, sym, ap, ◌∙◌, subst, take, drop, length-append}
-use Rattle.mz_events.specs.declared.entry.Entry.{Entry}
-use Rattle.mz_base.specs.declared.profile.Profile.{Profile}
+use Rattle.std.proofs.Common.{◌≡◌, ℕ, ◌+◌, ◌-◌, List, ◌∷◌, ◌++◌, length, reverse, Option, arith, sym, ap, ◌∙◌, subst, take, drop, length-append}
 use Rattle.mz_book.specs.Keepers.{keeper_count}
 use Rattle.mz_book.specs.Account.{Account, entry_at}
 use Rattle.mz_desk.specs.declared.view.View.{View}
 use Rattle.mz_desk.specs.Views.{view_account}
-use Rattle.mz_register.specs.Passes.{table_numbers, IsRested, IsKnowing, keys, bare}
-use Rattle.mz_register.specs.Accounts.{pass_account}
-use Rattle.std.proofs.lemmas.List.{reverse-append, length-reverse}
+use Rattle.mz_register.specs.Passes.{table_numbers, IsRested}
+use Rattle.std.proofs.lemmas.List.{reverse-append}
 use Rattle.atomic_table.specs.Table.{rest}
 use Rattle.mz_book.specs.Calls.{without}
 use Rattle.mz_desk.specs.Views.{freed}
 use Rattle.mz_register.specs.Seats.{CanPutBack}
 use Rattle.mz_register.proofs.Rests.{none_of}
-use Rattle.mz_register.proofs.Carried.{Round, round, spun, front_of, keys_length, cut_asc}
+use Rattle.mz_register.proofs.Carried.{round, spun, front_of, keys_length, cut_asc}
 use Rattle.mz_register.proofs.PassLemmas.{rested_freed, knowing_same}
 use Rattle.mz_register.proofs.pass.Pass.release.Goals as goal
 

@@ -1,12 +1,8 @@
-use Rattle.std.proofs.Common.{◌≡◌, ℕ, ◌+◌, ◌-◌, ◌<◌, ◌≤◌, Bool, true, false, List, [], ◌∷◌, ◌++◌, length, reverse, get_or, Option, Some, None, if◌then◌else◌, arith, refl, sym, ap, ◌∙◌, subst, inl, inr}
-use Rattle.mz_events.specs.declared.entry.Entry.{Entry}
+use Rattle.std.proofs.Common.{◌<◌, arith, sym, ap, ◌∙◌, subst}
 use Rattle.mz_base.specs.declared.profile.Profile.{Profile}
 use Rattle.mz_book.specs.Keepers.{keeper_count}
-use Rattle.mz_book.specs.Account.{Account, entry_at}
 use Rattle.mz_desk.specs.declared.view.View.{View}
-use Rattle.mz_desk.specs.Views.{view_account}
-use Rattle.mz_register.specs.Passes.{table_numbers, IsRested, IsKnowing, keys, bare}
-use Rattle.mz_register.specs.Accounts.{pass_account}
+use Rattle.mz_register.specs.Passes.{IsRested, keys, bare}
 use Rattle.std.specs.Prelude.{nat_lt}
 use Rattle.std.proofs.lemmas.Bool.{and_parts}
 use Rattle.std.proofs.lemmas.Bool.Decides.{nat_tests}

@@ -1,16 +1,11 @@
-use Rattle.std.proofs.Common.{◌≡◌, ℕ, ◌+◌, ◌-◌, ◌<◌, ◌≤◌, Bool, true, false, List, [], ◌∷◌, ◌++◌, length, reverse, get_or, Option, Some, None, if◌then◌else◌, arith, refl, sym, ap, ◌∙◌, subst, inl, inr, ⊎_elim}
-use Rattle.mz_events.specs.declared.entry.Entry.{Entry}
-use Rattle.mz_base.specs.declared.profile.Profile.{Profile}
+use Rattle.std.proofs.Common.{◌≡◌, ◌-◌, length, get_or, Some, arith, sym, ap, ◌∙◌, subst, inl, inr, ⊎_elim}
 use Rattle.mz_book.specs.Keepers.{keeper_count}
-use Rattle.mz_book.specs.Account.{Account, entry_at}
 use Rattle.mz_desk.specs.declared.view.View.{View}
 use Rattle.mz_desk.specs.Views.{view_account}
-use Rattle.mz_register.specs.Passes.{table_numbers, IsRested, IsKnowing, keys, bare}
+use Rattle.mz_register.specs.Passes.{table_numbers, IsRested, keys, bare}
 use Rattle.mz_register.specs.Accounts.{pass_account}
-use Rattle.mz_book.specs.Calls.{IsSettled}
 use Rattle.mz_book.specs.declared.light.Asked.TheVariants.{Settle}
 use Rattle.std.proofs.lemmas.Bool.{false≢true}
-use Rattle.mz_desk.specs.Views.{knowing}
 use Rattle.mz_register.proofs.PassLemmas.{rested_class, knowing_same}
 use Rattle.mz_register.proofs.pass.Pass.settle.Goals as goal
 use Rattle.mz_register.proofs.pass.Pass.settle.Goals.{then-word-eq0-via-then-word-eq0, then-word-eq0-via-else-word-eq0+then-word-class}

@@ -1,5 +1,4 @@
-use Rattle.std.proofs.Common.{◌≡◌, ℕ, ◌+◌, List, [], ◌∷◌, ◌++◌, Vec, Option, Some, None, length, set, get_or, arith, refl, sym, ap, ◌∙◌, subst, length-append}
-use Rattle.std.specs.declared.alloc.Global.{Global}
+use Rattle.std.proofs.Common.{◌≡◌, List, [], ◌∷◌, ◌++◌, length, set, get_or, arith, refl, sym, ap, ◌∙◌, subst, length-append}
 use Rattle.std.specs.Prelude.{option_to_list}
 use Rattle.mz_book.specs.Keepers.{keeper_count}
 use Rattle.mz_desk.specs.Keys.{opened_as}

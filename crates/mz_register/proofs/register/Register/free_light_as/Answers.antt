@@ -1,4 +1,4 @@
-use Rattle.std.proofs.Common.{◌≡◌, ℕ, ◌+◌, ◌*◌, arith, sym, ap, ◌∙◌, subst}
+use Rattle.std.proofs.Common.{◌≡◌, ℕ, arith, sym, ap, ◌∙◌, subst}
 use mathlib.Core.Option.{none}
 use Rattle.atomic_table.specs.Table.{step, Allows}
 use Rattle.mz_base.specs.declared.profile.Profile.{Profile}
@@ -23,5 +23,5 @@ store-requires g c =
       c.requires.one.table,
       omega arith,
       subst (λ (v : ℕ). A c.slot_place-place.result g.S.WhichSlot.block v) (sym c.requires.which.1) (subst (λ (u : ℕ). A c.slot_place-place.result u c.args.j) (sym c.requires.which.0) (subst (λ (x : ℕ). A x c.args.b c.args.j) (sym i)
-      (c.store_light.ensures key z.slots seat.id c.args.b c.args.j c.args.word seat.me c.requires.can))),
+          (c.store_light.ensures key z.slots seat.id c.args.b c.args.j c.args.word seat.me c.requires.can))),
     )

@@ -1,11 +1,9 @@
-use Rattle.std.proofs.Common.{◌≡◌, ℕ, ◌+◌, ◌*◌, ◌<◌, ◌≤◌, List, [], ◌∷◌, Option, length, replicate, reverse, arith, refl, sym, ap, ◌∙◌, subst}
+use Rattle.std.proofs.Common.{ℕ, List, [], Option, length, reverse, arith, refl, sym, ap, ◌∙◌, subst}
 use Rattle.mz_events.specs.declared.entry.Entry.{Entry}
-use Rattle.mz_base.specs.declared.profile.Profile.{Profile}
 use Rattle.mz_book.specs.Keepers.{keeper_count}
-use Rattle.mz_book.specs.Parts.{site_in, state_in, FitTogether}
+use Rattle.mz_book.specs.Parts.{site_in, state_in}
 use Rattle.mz_book.specs.Rule.{AreHome}
 use Rattle.mz_desk.specs.declared.view.Opening.{Opening}
-use Rattle.mz_desk.specs.declared.view.View.{View}
 use Rattle.mz_desk.specs.Keys.{opened_as}
 use Rattle.mz_desk.specs.Needs.{Seated}
 use Rattle.mz_register.specs.Passes.{IsRested, IsKnowing, keys, bare}

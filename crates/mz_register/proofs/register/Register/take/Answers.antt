@@ -1,8 +1,6 @@
-use Rattle.std.proofs.Common.{◌≡◌, ℕ, List, [], ◌∷◌, Option, Some, None, get_or, arith, refl, sym, ap, ◌∙◌, subst}
+use Rattle.std.proofs.Common.{◌≡◌, ℕ, List, ◌∷◌, Some, get_or, arith, sym, ap, ◌∙◌}
 use Rattle.atomic_table.specs.Table.{rest}
 use Rattle.mz_desk.specs.Keys.{opened_as}
-use Rattle.mz_desk.specs.Needs.{Seated}
-use Rattle.mz_register.proofs.Carried.{front}
 use Rattle.mz_register.proofs.register.Register.take.Goals as goal
 
 pub load-requires : goal.load-requires

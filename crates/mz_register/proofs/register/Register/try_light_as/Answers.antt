@@ -1,4 +1,4 @@
-use Rattle.std.proofs.Common.{◌≡◌, ℕ, ◌+◌, ◌*◌, ◌==◌, ◌<◌, arith, sym, ap, ◌∙◌, subst}
+use Rattle.std.proofs.Common.{◌≡◌, ℕ, ◌+◌, ◌==◌, ◌<◌, arith, sym, ap, ◌∙◌, subst}
 use prog.Atomic.{either}
 use mathlib.Core.Option.{none}
 use Rattle.atomic_table.specs.Table.{step, Allows}
@@ -6,7 +6,6 @@ use Rattle.mz_base.specs.declared.profile.Profile.{Profile}
 use Rattle.mz_desk.specs.Keys.{opened_as}
 use Rattle.mz_desk.specs.Words.{slot_place}
 use Rattle.mz_desk.specs.Rule.{Rule}
-use Rattle.mz_desk.specs.Needs.{CanLight}
 use Rattle.mz_desk.specs.Steps.{TriesLight}
 use Rattle.mz_register.proofs.Places.{slot_in}
 use Rattle.mz_register.proofs.register.Register.try_light_as.Goals as goal
@@ -32,5 +31,5 @@ compare_exchange-requires g c =
       c.requires.one.table,
       omega arith,
       subst (λ (v : ℕ). A c.slot_place-place.result c.from.result g.S.WhichSlot.block v) (sym j) (subst (λ (u : ℕ). A c.slot_place-place.result c.from.result u c.args.j) (sym b) (subst (λ (n : ℕ). A c.slot_place-place.result n c.args.b c.args.j) (sym e) (subst (λ (x : ℕ). A x seat.me.0.caller c.args.b c.args.j) (sym i)
-      (c.take_light.ensures key z.slots seat.id c.args.b c.args.j c.args.expect seat.me c.requires.can)))),
+          (c.take_light.ensures key z.slots seat.id c.args.b c.args.j c.args.expect seat.me c.requires.can)))),
     )

@@ -7,3 +7,4 @@ mod PassLemmas
 mod OpenLemmas
 mod WordLemmas
 mod FirstLemmas
+mod ToyLemmas

@@ -1,5 +1,5 @@
 -- Keepers for tests, by number, of a space with one page below nano's.
-use Rattle.std.specs.Prelude.{◌≡◌, ℕ, ◌+◌, ◌-◌, ◌==◌, ◌≤◌, true, false, List, [], ◌∷◌, ◌++◌, None, if◌then◌else◌, IsTrue}
+use Rattle.std.specs.Prelude.{◌≡◌, ℕ, ◌+◌, ◌-◌, ◌==◌, ◌<◌, ◌≤◌, true, false, List, [], ◌∷◌, ◌++◌, None, if◌then◌else◌, IsTrue}
 use Rattle.mz_base.specs.declared.profile.Profile.{Profile}
 use Rattle.mz_base.specs.Site.{Site}
 use Rattle.mz_events.specs.declared.event.Event.{Event}
@@ -33,7 +33,8 @@ large_is_full = Full (Large 0) 1 1
 
 -- a book of toys that holds nothing, has room for n entries, and whose zone is open
 pub record MayBeFull (s : Account) (n : ℕ) : Type 0 where
-  pub profile : (s.profile ≡ toy_profile 0)
+  pub profile : s.profile ≡ toy_profile 0
+  pub caller : s.caller < 2
   pub nothing_held : s.held ≡ []
   pub room : n ≤ s.spare
   pub zone_open : is_open (state_of s) 0 ≡ true

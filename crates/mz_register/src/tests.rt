@@ -75,6 +75,7 @@ fn are_all_tickets(first: &[Entry], second: &[Entry]) -> bool {
     i == 1000 && j == 1000
 }
 
+#[tactic(none)]
 fn note_in_threads<R: Threads + Wait + Abort + Sync>(rt: &R, alloc: Global) -> Result<(), Fail> {
     let book = book_of_toys(alloc, 0)?;
     let Ok((register, passes)) = Register::open(alloc, book) else {
@@ -108,6 +109,7 @@ fn a_client_of_any_book_notes_at_a_plain_book(rt: HostRuntime) -> Result<(), Fai
 }
 
 #[test]
+#[tactic(none)]
 fn one_keeper_is_taken_and_another_is_free(rt: HostRuntime) -> Result<(), Fail> {
     let book = book_of_toys(rt.alloc(), 1)?;
     let Ok((register, passes)) = Register::open(rt.alloc(), book) else {

@@ -1,4 +1,4 @@
-use Rattle.std.proofs.Common.{ℕ, ◌-◌, arith}
+use Rattle.std.proofs.Common.{ℕ, ◌+◌, ◌-◌, arith}
 use Rattle.mz_register.specs.Accounts.{pass_account}
 use Rattle.mz_register.proofs.ToyLemmas.{fewer, again, same_of}
 use Rattle.mz_register.proofs.tests.note_often.Goals as goal

@@ -7,4 +7,3 @@ mod PassLemmas
 mod OpenLemmas
 mod WordLemmas
 mod FirstLemmas
-mod ToyLemmas

@@ -4,4 +4,3 @@ pub mod Passes
 pub mod Accounts
 pub mod Orderly
 pub mod Opened
-pub mod Toys

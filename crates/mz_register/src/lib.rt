@@ -38,6 +38,3 @@ pub use desk::Desk;
 pub use mz_book::{Asked, Book, Found, Light, Pair, PlainBook};
 pub use pass::{Pass, Taken};
 pub use register::Register;
-
-#[cfg(test)]
-mod tests;

@@ -97,15 +97,18 @@ module _ (L : HistoryLaws) (p : Profile) (es : List Entry) (ok : AreLawful p ope
   owned_at pairs c x one h n = hand_at pairs c x (let e = one x in omega arith) h n
 
   -- where a slot's pair is in a hand, it is live
-  pub owned_slot : (pairs : List Pair) (c b j : ℕ) → AreInOneHand st pairs → has_slot p (hand_among c pairs) b j ≡ true → is_slot_live p st b j ≡ true
-  owned_slot pairs c b j one h =
+  pub slot_of_owned : (pairs : List Pair) (c b j : ℕ) → ((x : Block) → owners pairs x ≤ one_for (is_live st x)) → has_slot p (hand_among c pairs) b j ≡ true → is_slot_live p st b j ≡ true
+  slot_of_owned pairs c b j own h =
       let r = find_any (slot_test p b j) (hand_among c pairs) h in
       let x = r.0 in
       let t = and_parts (page_of x.first == page_of_block p b) (slot_number x == j) r.1.1 in
       let page : page_of x.first ≡ page_of_block p b = eqb-true (page_of x.first) (page_of_block p b) t.0 in
-      let at = owned_at pairs c x one (there_has (hand_among c pairs) x r.1.0) (omega arith) in
+      let at = hand_at pairs c x (own x) (there_has (hand_among c pairs) x r.1.0) (omega arith) in
       let at2 : has_block (kept_at st (nano_page (page_of_block p b))).live x ≡ true = subst (λ i. has_block (kept_at st (nano_page i)).live x ≡ true) page at in
       any_from (slot_test p b j) (kept_at st (nano_page (page_of_block p b))).live x (has_there (kept_at st (nano_page (page_of_block p b))).live x at2) r.1.1
+
+  pub owned_slot : (pairs : List Pair) (c b j : ℕ) → AreInOneHand st pairs → has_slot p (hand_among c pairs) b j ≡ true → is_slot_live p st b j ≡ true
+  owned_slot pairs c b j one h = slot_of_owned pairs c b j (λ x. let e = one x in omega arith) h
 
   page_of_live : (i : ℕ) (x : Block) → has_block (kept_at st (nano_page i)).live x ≡ true → page_of x.first ≡ i
   page_of_live i x h = page_at i x (asc.sizes (nano_page i) x h) ((sep.at_home (nano_page i) x h).2)

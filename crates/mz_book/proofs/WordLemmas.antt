@@ -17,13 +17,15 @@ use Rattle.mz_events.specs.Changes.{one_for}
 use Rattle.mz_events.specs.History.{AreLawful, after_all}
 use Rattle.mz_book.specs.declared.pair.Pair.{Pair}
 use Rattle.mz_book.specs.HistoryLaws.{HistoryLaws}
-use Rattle.mz_book.specs.Pairs.{hand_among}
+use Rattle.mz_book.specs.Pairs.{hand_among, owners}
+use Rattle.mz_book.specs.Account.{Account, IsOrderly, is_live}
+use Rattle.mz_book.specs.Calls.{CanHoldLight}
 use Rattle.mz_book.specs.Lights.{slot_size, slots_of, page_of_block, slot_number, has_slot, is_slot_live, has_light, light_at, lights_from}
 use Rattle.mz_book.specs.Rule.{AreInOneHand, AreOfClass, AreWords, is_word}
 use Rattle.mz_book.proofs.ListLemmas.{find_any, there_has, same_bool}
 use Rattle.mz_book.proofs.LightLemmas.{light_of_slot}
 use Rattle.mz_book.proofs.SlotLemmas.{slot_test, slot_end}
-use Rattle.mz_book.proofs.NanoLemmas.{word_idle, word_lit, lit_word, idle_word, owned_slot, lit_owned}
+use Rattle.mz_book.proofs.NanoLemmas.{word_idle, word_lit, lit_word, idle_word, owned_slot, slot_of_owned, lit_owned}
 
 -- one word is another
 pub words_set : (p : Profile) (s : State) (c : ℕ) (pairs : List Pair) (ws : List ℕ) (b j v : ℕ) → b < p.nano → j < 1024 → length ws ≡ p.nano * 1024 → is_word c (is_slot_live p s b j) (has_slot p (hand_among c pairs) b j) v ≡ true → AreWords p s c pairs ws → AreWords p s c pairs (set ws (b * 1024 + j) v)
@@ -126,13 +128,16 @@ module _ (L : HistoryLaws) (p : Profile) (es : List Entry) (ok : AreLawful p ope
       number_few (x.first % PAGE) x.size j l (omega arith) (eqb-true (slot_number x) j t.1)
 
   -- what is asked of a light tells which slot it is
-  pub asked_few : (c : ℕ) (pairs : List Pair) (classes : List ℕ) (b j expect : ℕ) → AreInOneHand st pairs → expect ≤ 1 → (expect ≡ 0 → 1 ≤ get_or classes b 0) → (expect ≡ 0 → j < slots_of (get_or classes b 0)) → (expect ≡ 1 → has_slot p (hand_among c pairs) b j ≡ true) → j < 1024
-  asked_few c pairs classes b j expect one kind settled there owned = elim (cases_Bool (expect == 0)) [
+  pub asked_few_by : (c : ℕ) (pairs : List Pair) (classes : List ℕ) (b j expect : ℕ) → ((x : Block) → owners pairs x ≤ one_for (is_live st x)) → expect ≤ 1 → (expect ≡ 0 → 1 ≤ get_or classes b 0) → (expect ≡ 0 → j < slots_of (get_or classes b 0)) → (expect ≡ 1 → has_slot p (hand_among c pairs) b j ≡ true) → j < 1024
+  asked_few_by c pairs classes b j expect one kind settled there owned = elim (cases_Bool (expect == 0)) [
     | inl y ↦ let e = eqb-true expect 0 y in slot_few j (get_or classes b 0) (settled e) (there e)
     | inr n ↦
         let e : expect ≡ 1 = omega (arith, kind, λ (z : expect ≡ 0). false≢true (sym n ∙ eq-eqb expect 0 z)) in
-        live_few b j (owned_slot L p es ok pairs c b j one (owned e))
+        live_few b j (slot_of_owned L p es ok pairs c b j one (owned e))
   ]
+
+  pub asked_few : (c : ℕ) (pairs : List Pair) (classes : List ℕ) (b j expect : ℕ) → AreInOneHand st pairs → expect ≤ 1 → (expect ≡ 0 → 1 ≤ get_or classes b 0) → (expect ≡ 0 → j < slots_of (get_or classes b 0)) → (expect ≡ 1 → has_slot p (hand_among c pairs) b j ≡ true) → j < 1024
+  asked_few c pairs classes b j expect one kind settled there owned = asked_few_by c pairs classes b j expect (λ x. let e = one x in omega arith) kind settled there owned
 
   module _ (c : ℕ) (pairs : List Pair) (ws : List ℕ) (b j expect : ℕ) (one : AreInOneHand st pairs) (words : AreWords p st c pairs ws) (lb : b < p.nano) (lj : j < 1024) (kind : expect ≤ 1) (free : has_light (lights_from 0 ws) (light_at b j) ≡ false) (owned : expect ≡ 1 → has_slot p (hand_among c pairs) b j ≡ true) where
     abbrev w : ℕ
@@ -190,3 +195,7 @@ word_told p s c pairs ws b j words lb lj =
 
 pub no_class : (p : Profile) (s : State) (classes : List ℕ) → ((j : Rattle.mz_events.specs.Places.Spot) → (kept_at s j).live ≡ []) → AreOfClass p s classes
 no_class p s classes none b x lb h = absurd (false≢true (sym (ap (λ bs. has_block bs x) (none (nano_page (page_of_block p b)))) ∙ h))
+
+-- a light that a book may take is of a slot
+pub light_few : HistoryLaws → (s : Account) (b j expect : ℕ) → IsOrderly s → CanHoldLight s b j expect → j < 1024
+light_few L s b j expect o can = asked_few_by L s.profile s.seen o.lawful s.caller s.pairs s.settled b j expect o.owned can.kind can.settled can.there can.owned

@@ -1,5 +1,5 @@
 -- The parts of a plain book of which nothing is held. This project's own.
-use Rattle.std.specs.Prelude.{◌≡◌, ℕ, ◌+◌, ◌*◌, ◌<◌, ◌≤◌, ◌^◌, true, nat_le, List, [], length, slice_index_or}
+use Rattle.std.specs.Prelude.{◌≡◌, ℕ, ◌+◌, ◌*◌, ◌<◌, ◌≤◌, ◌^◌, true, nat_le, [], length, slice_index_or}
 use Rattle.std.specs.List.{list_all}
 use Rattle.std.specs.Vec.{vec_capacity}
 use Rattle.mz_base.specs.Limits.{IsWithinLimits}

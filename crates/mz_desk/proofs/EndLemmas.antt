@@ -1,14 +1,13 @@
 -- Once seat 0 took in all others and holds nothing, no lock and no light is held.
-use Rattle.std.proofs.Common.{◌≡◌, ◌≢◌, ℕ, ◌+◌, ◌<◌, ◌≤◌, ◌==◌, Bool, true, false, ◌⊎◌, List, [], ◌∷◌, ◌++◌, length, get_or, Option, refl, sym, ap, ◌∙◌, subst, arith, inl, inr, ⊎_elim, zero, suc, append-nil}
+use Rattle.std.proofs.Common.{◌≡◌, ℕ, ◌<◌, ◌≤◌, ◌==◌, true, false, List, [], ◌∷◌, ◌++◌, length, Option, refl, sym, ap, ◌∙◌, subst, arith, ⊎_elim, zero, suc, append-nil}
 use Rattle.std.specs.Prelude.{◌||◌}
 use Rattle.std.specs.List.{All, list_any}
 use Rattle.std.proofs.lemmas.List.Elements.{All-head, All-tail, All-weaker}
-use Rattle.std.proofs.lemmas.Bool.{cases_eq, cases_Bool, false≢true, eqb-true}
+use Rattle.std.proofs.lemmas.Bool.{cases_eq, false≢true, eqb-true}
 use mathlib.Core.Option as m
 use mathlib.Core.Option.{some-injective}
 use lib.ListN.{get_elem?}
 use Rattle.atomic_table.specs.Table as table
-use Rattle.mz_base.specs.Space.{Block}
 use Rattle.mz_events.specs.declared.entry.Entry.{Entry}
 use Rattle.mz_events.specs.Changes.{one_for}
 use Rattle.mz_events.specs.Standing.{Keeping}
@@ -16,13 +15,12 @@ use Rattle.mz_book.specs.declared.pair.Pair.{Pair}
 use Rattle.mz_book.specs.Keepers.{keeper_count, is_among}
 use Rattle.mz_book.specs.Pairs.{hand_among, owners}
 use Rattle.mz_book.specs.Lights.{is_slot_live, has_light, light_at}
-use Rattle.mz_book.specs.Account.{is_live}
 use Rattle.mz_desk.specs.declared.view.TakenIn.{TakenIn}
 use Rattle.mz_desk.specs.declared.view.View.{View}
 use Rattle.mz_desk.specs.Words.{lock_word, light_word}
-use Rattle.mz_desk.specs.Views.{Opened, has_lock, took_in, all_pairs}
+use Rattle.mz_desk.specs.Views.{Opened, has_lock, all_pairs}
 use Rattle.mz_desk.specs.Ending.{TookAll, IsPartOf, Ended}
-use Rattle.mz_desk.specs.Rule.{state_after, AtHome, SeatKeeps, LockOwner, LightOwner, IsSpent, IsTaken, Kept, Rule}
+use Rattle.mz_desk.specs.Rule.{state_after, AtHome, SeatKeeps, LockOwner, LightOwner, IsSpent, IsTaken, Kept}
 use Rattle.mz_desk.proofs.ListLemmas.{at_length, or_either}
 
 -- a seat that was taken in is spent

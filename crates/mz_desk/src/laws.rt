@@ -8,4 +8,4 @@ mod histories;
 pub mod seats;
 pub mod steps;
 
-pub(crate) use histories::of_histories;
+pub use histories::of_histories;

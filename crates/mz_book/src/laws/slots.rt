@@ -8,7 +8,7 @@ ghost use Rattle.mz_events.specs.declared.place.Place.TheVariants.{Nano};
 ghost use Rattle.mz_book.specs.declared.light.Light.{Light as light};
 ghost use Rattle.mz_book.specs.Lights.{slot_size, slots_of, slot_address, slot_number, page_of_block, light_at, same_light, has_light, add_light, drop_light};
 ghost use Rattle.mz_book.specs.Account.{Account, IsOrderly, hand, owns_slot};
-ghost use Rattle.mz_book.specs.Calls.{CanMakeSlot, CanEndSlot, Notes};
+ghost use Rattle.mz_book.specs.Calls.{CanMakeSlot, CanEndSlot, CanHoldLight, Notes};
 
 use crate::laws::of_histories;
 
@@ -35,3 +35,10 @@ pub fn lights_that_are_held()
     ensures given_back { (lights : List light) (l m : light) → has_light (drop_light l lights) m ≡ (not (same_light m l) && has_light lights m) }
     ensures both { (lights : List light) (l : light) → has_light lights l ≡ false → drop_light l (add_light l lights) ≡ lights }
 {}
+
+/// A light that a book may take is of one of a block's slots, of which there are at most 1,024.
+pub fn lights_are_of_slots()
+    ensures { (s : Account) (b j expect : ℕ) → IsOrderly s → CanHoldLight s b j expect → j < 1024 }
+{
+    of_histories();
+}

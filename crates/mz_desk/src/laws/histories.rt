@@ -6,7 +6,7 @@ use mz_book::laws::{hands, notes, numbers, slots};
 use mz_events::laws::{entries, holding, separation};
 
 /// They hold, all together.
-pub(crate) fn of_histories()
+pub fn of_histories()
     ensures { DeskLaws }
 {
     holding::what_an_event_leaves();

@@ -1,4 +1,4 @@
-use Rattle.std.proofs.Common.{◌≡◌, ℕ, ◌+◌, ◌*◌, List, get_or, sym, subst}
+use Rattle.std.proofs.Common.{ℕ, ◌+◌, ◌*◌, List, get_or, subst}
 use Rattle.mz_events.specs.State.{opening}
 use Rattle.mz_events.specs.History.{after_all}
 use Rattle.mz_book.specs.Pairs.{hand_among}

@@ -1,0 +1,9 @@
+mod Carried
+mod Places
+mod Rests
+mod AccountMoves
+mod SeatCalls
+mod PassLemmas
+mod OpenLemmas
+mod WordLemmas
+mod FirstLemmas

@@ -1,0 +1,6 @@
+pub mod Seats
+pub mod Codes
+pub mod Passes
+pub mod Accounts
+pub mod Orderly
+pub mod Opened

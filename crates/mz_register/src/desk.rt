@@ -1,0 +1,94 @@
+//! The desk, at which a pass is a book.
+ghost use Rattle.std.specs.Prelude.{◌≡◌, ◌≢◌, ◌+◌, ◌≤◌, IfOk, IfErr};
+ghost use Rattle.mz_book.specs.Account.{StandsFor};
+ghost use Rattle.mz_book.specs.Calls.{CanHold, Gains};
+ghost use Rattle.mz_register.specs.Passes.{IsOf};
+ghost use Rattle.mz_register.specs.Accounts.{pass_account, at_desk};
+
+use crate::pass::{Pass, Taken};
+use crate::register::Register;
+use mz_book::{Book, Found, Light};
+use mz_events::{Event, Keep};
+use std::sync::Wait;
+
+/// A pass at its register, where it is a book. `hold` waits by trying again, and lets other threads run between two tries; nothing else
+/// waits.
+pub struct Desk<'a, V: Keep + Drop> {
+    register: &'a Register<V>,
+    pass: &'a mut Pass<V>,
+    ghost table: { pass.now.seat.table_id ≡ register.now.table.shared.table_id },
+    ghost profile: { pass.now.seat.me.0.profile ≡ register.now.opening.profile },
+}
+
+impl<'a, V: Keep + Drop> Book<V> for Desk<'a, V> {
+    ghost use Rattle.mz_register.specs.Accounts.{pass_account, at_desk};
+    ghost use Rattle.mz_register.specs.Orderly.{orderly, orderly_at};
+
+    ghost account = { λ d. at_desk d.pass.ghost_name (pass_account d.pass.now) };
+
+    fn caller(&self) -> u32 {
+        self.pass.caller()
+    }
+
+    fn hold<R: Wait>(&mut self, rt: &R, k: usize) -> V {
+        self.pass.hold(rt, self.register, k)
+    }
+
+    fn note(&mut self, e: Event) -> u64 {
+        self.pass.note(self.register, e)
+    }
+
+    fn release(&mut self, k: usize, v: V) {
+        self.pass.release(self.register, k, v);
+    }
+
+    fn settle(&mut self, b: u64, class: u64) -> Result<(), Found> {
+        self.pass.settle(self.register, b, class)
+    }
+
+    fn hold_light(&mut self, b: u64, j: u64, expect: u64) -> Result<Light, Found> {
+        self.pass.hold_light(self.register, b, j, expect)
+    }
+
+    fn release_light(&mut self, l: Light, live: bool) {
+        self.pass.release_light(self.register, l, live);
+    }
+
+    ghost orderly = { λ d. orderly_at d.pass.ghost_name (pass_account d.pass.now) (orderly d.pass.now) };
+}
+
+impl<V: Keep + Drop> Drop for Desk<'_, V> {
+    fn drop(self)
+        ensures { self.exit.1.0.now ≡ self.entry.pass.now }
+    {
+        let Desk {
+            register: _,
+            pass: _,
+        } = self;
+    }
+}
+
+impl<V: Keep + Drop> Register<V> {
+    /// The desk at which the pass is a book. The pass is one of this register.
+    pub fn desk<'a>(&'a self, pass: &'a mut Pass<V>) -> Desk<'a, V>
+        requires { IsOf self.now.table.shared.table_id self.now.opening.profile (pass_account pass.old) }
+        ensures same_reference { result.pass.ghost_name ≡ pass.entry.ghost_name }
+        ensures account { ⟦<Desk<'a, V> as Book<V>>⟧.account result ≡ at_desk pass.entry.ghost_name (pass_account pass.old) }
+    {
+        Desk {
+            register: self,
+            pass,
+        }
+    }
+
+    /// Takes the keeper of number `k`, which is above each one held, if its lock is free. `Taken` carries the word of the lock, which
+    /// this call found: it isn't 0, and it shows another caller. This doesn't wait, and isn't counted as a hold.
+    pub fn try_hold(&self, pass: &mut Pass<V>, k: usize) -> Result<V, Taken>
+        requires of { IsOf self.now.table.shared.table_id self.now.opening.profile (pass_account pass.old) }
+        requires can { CanHold (pass_account pass.old) k }
+        ensures gains { IfOk result (λ v. Gains (pass_account pass.old) k (pass_account pass.old).holds (pass_account pass.new) × StandsFor (pass_account pass.new) k (V.keeping v)) }
+        ensures taken { IfErr result (λ t. (1 ≤ t.word) × (t.word ≢ (pass_account pass.old).caller + 1) × (pass_account pass.new ≡ pass_account pass.old)) }
+    {
+        pass.try_hold(self, k)
+    }
+}

@@ -126,6 +126,7 @@ pairs_joined c pairs (x ∷ xs) ys = pairs_joined c (pairs_after c pairs x.event
 
 same_by : (s t : Account) (h : List ℕ) (e n : List Entry) (d : List Pair) (r o : ℕ) → t ≡ record s { held = h; seen = e; noted = n; pairs = d; spare = r; holds = o } → IsSame s t
 same_by s t h e n d r o a = record {
+  name = ap (λ (u : Account). u.name) a;
   profile = ap (λ (u : Account). u.profile) a;
   caller = ap (λ (u : Account). u.caller) a;
   site = ap (λ (u : Account). u.site) a;
@@ -138,6 +139,7 @@ same_by s t h e n d r o a = record {
 
 same_joined : (s t u : Account) → IsSame s t → IsSame t u → IsSame s u
 same_joined s t u a b = record {
+  name = b.name ∙ a.name;
   profile = b.profile ∙ a.profile;
   caller = b.caller ∙ a.caller;
   site = b.site ∙ a.site;
@@ -149,7 +151,7 @@ same_joined s t u a b = record {
 }
 
 same_self : (s : Account) → IsSame s s
-same_self s = record { profile = refl; caller = refl; site = refl; between = refl; lights = refl; settled = refl; founds = refl; found = refl }
+same_self s = record { name = refl; profile = refl; caller = refl; site = refl; between = refl; lights = refl; settled = refl; founds = refl; found = refl }
 
 pub grows_nothing : (s : Account) → GrowsHolding s [] 0 s
 grows_nothing s = record {

@@ -5,6 +5,8 @@ mod PairLemmas
 mod OwnerLemmas
 mod ListLemmas
 mod LiveLemmas
+mod SumLemmas
+mod ZoneLemmas
 mod QuantumLemmas
 mod LightLemmas
 mod DutyLemmas
@@ -18,4 +20,5 @@ mod GrowthLemmas
 mod WordLemmas
 mod ClientLemmas
 mod ToyLemmas
+mod PartsLemmas
 mod ToySlotLemmas

@@ -22,6 +22,8 @@ use Rattle.mz_book.specs.Lights.{has_light, light_at, has_slot, is_slot_live}
 
 -- All that contracts see of a book.
 pub record Account : Type 0 where
+  -- which book it is; no call changes it
+  pub name : List ℕ
   pub profile : Profile
   pub caller : ℕ
   -- the space in which its keepers stand for their places

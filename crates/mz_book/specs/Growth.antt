@@ -33,6 +33,7 @@ is_undisturbed p c j begun (e ∷ es) = ((e.caller == c) || not (begun && touche
 
 -- what no call on keepers and entries changes
 pub record IsSame (s t : Account) : Type 0 where
+  pub name : t.name ≡ s.name
   pub profile : t.profile ≡ s.profile
   pub caller : t.caller ≡ s.caller
   pub site : t.site ≡ s.site

@@ -6,6 +6,7 @@ pub mod Account
 pub mod Calls
 pub mod Rule
 pub mod Plain
+pub mod Parts
 pub mod Growth
 pub mod HistoryLaws
 pub mod Living

@@ -20,6 +20,7 @@ use Rattle.mz_book.specs.Rule.{IsThere}
 -- are those of all callers, and its lights are told by the slot words.
 abbrev pub plain_account : Profile → ℕ → Site → List Entry → ℕ → List ℕ → List Pair → List ℕ → List ℕ → ℕ → ℕ → Option Asked → Account
 plain_account p c x history limit held pairs classes words holds founds found = record {
+  name = [];
   profile = p;
   caller = c;
   site = x;

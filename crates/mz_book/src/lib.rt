@@ -4,6 +4,7 @@
 //! - `light`: lights of nano's slots, and what is answered where a word is another than was asked for.
 //! - `pair`: who owns which live block.
 //! - `plain`: `PlainBook`, a book with no atomics.
+//! - `parts`: what a plain book is made of, while nothing is held.
 //! - `laws`: the numbers of keepers, and what several calls add up to.
 //!
 //! ```text
@@ -29,6 +30,7 @@ pub mod book;
 pub mod laws;
 pub mod light;
 pub mod pair;
+pub mod parts;
 pub mod plain;
 #[cfg(test)]
 mod tests;
@@ -36,4 +38,5 @@ mod tests;
 pub use book::Book;
 pub use light::{Asked, Found, Light};
 pub use pair::Pair;
+pub use parts::Parts;
 pub use plain::PlainBook;

@@ -1,4 +1,6 @@
 //! Lights of nano's slots, and what a call answers where it finds another word than it asked for.
+ghost use Rattle.std.specs.Prelude.{◌≡◌};
+ghost use Rattle.mz_book.specs.Lights.{light_at};
 
 /// The held word of one slot of nano. `hold_light` alone makes it, and `release_light` takes it back. If it is dropped the slot stays
 /// held.
@@ -6,6 +8,30 @@
 pub struct Light {
     pub(crate) block: u64,
     pub(crate) slot: u64,
+}
+
+impl Light {
+    /// The light of the slot `j` of the block `b` of nano, for a book that took it. Nobody else has a use for it: a book gives back
+    /// only lights that it holds.
+    pub fn taken(b: u64, j: u64) -> Light
+        ensures { result ≡ light_at b j }
+    {
+        Light { block: b, slot: j }
+    }
+
+    /// The block of nano.
+    pub fn block(&self) -> u64
+        ensures { result ≡ self.now.block }
+    {
+        self.block
+    }
+
+    /// The slot of the block.
+    pub fn slot(&self) -> u64
+        ensures { result ≡ self.now.slot }
+    {
+        self.slot
+    }
 }
 
 /// The word that a call found in place of the one that it asked for.

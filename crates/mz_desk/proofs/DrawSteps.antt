@@ -25,7 +25,7 @@ use Rattle.mz_events.specs.Changes.{one_for}
 use Rattle.mz_events.specs.Effect.{touches, after}
 use Rattle.mz_events.specs.Rules.{Fits}
 use Rattle.mz_events.specs.History.{AreLawful, after_all}
-use Rattle.mz_events.specs.Hands.{own}
+use Rattle.mz_events.specs.Hands.{own, hand_after}
 use Rattle.mz_events.specs.Holding.{changes_zones, IsAway, AreAway, IsKnownThrough}
 use Rattle.mz_events.specs.Standing.{Keeping, Stands}
 use Rattle.mz_book.specs.declared.pair.Pair.{Pair}
@@ -188,11 +188,11 @@ module _ {V : Type 0} (keeping : V → Keeping) (key : Opened) (L : DeskLaws) (i
       spent_not : (c : ℕ) → IsSpent s.views c → c ≡ id → ⊥
       spent_not c d x = let vu : v ≡ d.view = some-injective v d.view (sym at ∙ (ap (get_elem? s.views) (sym x) ∙ d.at)) in false≢true (sym d.spent ∙ (ap (λ (z : View). z.live) (sym vu) ∙ live))
 
-      taken_not : (xs : List TakenIn) (c : ℕ) → list_any (λ x. x.caller == c) xs ≡ true → All (IsTaken s.views later) xs → c ≡ id → ⊥
+      taken_not : (xs : List TakenIn) (c : ℕ) → list_any (λ x. x.caller == c) xs ≡ true → All (IsTaken key s.views later) xs → c ≡ id → ⊥
       taken_not [] c a h x = false≢true a
       taken_not (y ∷ ys) c a h x = ⊎_elim
-          (λ (q : (y.caller == c) ≡ true). spent_not y.caller (Rattle.std.proofs.lemmas.List.Elements.All-head (IsTaken s.views later) y ys h).spent (Rattle.std.proofs.lemmas.Bool.eqb-true y.caller c q ∙ x))
-          (λ (q : list_any (λ (z : TakenIn). z.caller == c) ys ≡ true). taken_not ys c q (Rattle.std.proofs.lemmas.List.Elements.All-tail (IsTaken s.views later) y ys h) x)
+          (λ (q : (y.caller == c) ≡ true). spent_not y.caller (Rattle.std.proofs.lemmas.List.Elements.All-head (IsTaken key s.views later) y ys h).spent (Rattle.std.proofs.lemmas.Bool.eqb-true y.caller c q ∙ x))
+          (λ (q : list_any (λ (z : TakenIn). z.caller == c) ys ≡ true). taken_not ys c q (Rattle.std.proofs.lemmas.List.Elements.All-tail (IsTaken key s.views later) y ys h) x)
           (or_either (y.caller == c) (list_any (λ (z : TakenIn). z.caller == c) ys) a)
 
   none : NoneOf id others
@@ -210,10 +210,10 @@ module _ {V : Type 0} (keeping : V → Keeping) (key : Opened) (L : DeskLaws) (i
   class_is b l = let z : 0 + b ≡ b = omega arith in value_at_place (class_word p s.words) 0 p.nano b l ∙ ap (class_word p s.words) z
 
   abbrev seen_account : Profile → ℕ → Account
-  seen_account q c = record (view_account v 1 0 0 None) { profile = q; caller = c }
+  seen_account q c = record (view_account v [] 1 0 0 None) { profile = q; caller = c }
 
   abbrev A : Account
-  A = record (view_account v 1 0 0 None) { profile = p; caller = id; seen = H; pairs = others ++ v.pairs; settled = classes }
+  A = record (view_account v [] 1 0 0 None) { profile = p; caller = id; seen = H; pairs = others ++ v.pairs; settled = classes }
 
   can_here : CanNote (seen_account p id) ev
   can_here = subst (λ c. CanNote (seen_account p c) ev) f.caller (subst (λ q. CanNote (seen_account q v.caller) ev) f.profile can.note)
@@ -392,6 +392,7 @@ module _ {V : Type 0} (keeping : V → Keeping) (key : Opened) (L : DeskLaws) (i
         let z = ap (λ es. one_for (is_live (after_all p opening es) b)) long_seen in
         omega arith;
     whose = subst (All (IsWhose id w)) (sym pairs_are) (callers_after (λ c. (c ≡ id) ⊎ (((id ≡ 0) × (v.given ≤ c)) ⊎ (took_in v c ≡ true))) id v.pairs ev (inl refl) f.whose);
+    hand = ap (hand_among id) pairs_are ∙ (L.hand_own id v.pairs ev ∙ (ap (λ bs. hand_after bs ev) f.hand ∙ sym (L.hand_joined (hand_among id key.pairs) v.noted (e ∷ []))));
     lights = λ b j h. let o = f.lights b j h in (o.0, o.1, light_same b j ∙ o.2);
     sized = f.sized;
     settled = λ b d. class_same b ∙ f.settled b d;
@@ -428,17 +429,18 @@ module _ {V : Type 0} (keeping : V → Keeping) (key : Opened) (L : DeskLaws) (i
       timed = g.timed;
       owned = g.owned;
       whose = g.whose;
+      hand = g.hand;
       lights = λ b j h. let o = g.lights b j h in (o.0, o.1, light_same b j ∙ o.2);
       sized = g.sized;
       settled = λ b d. class_same b ∙ g.settled b d;
     }
 
-  taken_more : (x : TakenIn) → IsTaken s.views later x → IsTaken (set s.views id w) later' x
+  taken_more : (x : TakenIn) → IsTaken key s.views later x → IsTaken key (set s.views id w) later' x
   taken_more x t =
-      let a = taken_stays s.views id v w later x at live t in
+      let a = taken_stays key s.views id v w later x at live t in
       let d = t.spent in
       let ne : e.caller ≢ x.caller = λ y. let vu : v ≡ d.view = some-injective v d.view (sym at ∙ (ap (get_elem? s.views) (sym f.caller ∙ y) ∙ d.at)) in false≢true (sym d.spent ∙ (ap (λ (z : View). z.live) (sym vu) ∙ live)) in
-      record { noted = t.noted ∙ sym (L.own_joined x.caller later (e ∷ []) ∙ (ap (λ (es : List Entry). own x.caller later ++ es) (own_none x.caller e ne) ∙ append-nil (own x.caller later))); spent = a.spent }
+      record { rest = t.rest ++ e ∷ []; seen = long ∙ (ap (λ (es : List Entry). es ++ e ∷ []) t.seen ∙ append_assoc x.seen t.rest (e ∷ [])); hand = t.hand; noted = t.noted ∙ sym (L.own_joined x.caller later (e ∷ []) ∙ (ap (λ (es : List Entry). own x.caller later ++ es) (own_none x.caller e ne) ∙ append-nil (own x.caller later))); spent = a.spent }
 
   drawn_history : HistoryKeeps key (get_or words' 0 0) (length (set s.views id w)) later'
   drawn_history =
@@ -494,8 +496,8 @@ module _ {V : Type 0} (keeping : V → Keeping) (key : Opened) (L : DeskLaws) (i
             (λ (t : (0 ≢ id) × (get_elem? s.views 0 ≡ m.some u)). h.undealt u c t.1 l g)
             (at_set s.views id 0 w u x);
         taken = λ i u x l. ⊎_elim
-            (λ (t : (i ≡ id) × (w ≡ u)). All-weaker (IsTaken s.views later) (IsTaken (set s.views id w) later') taken_more u.joined (subst (All (IsTaken s.views later)) (ap (λ (z : View). z.joined) t.1) (h.taken id v at live)))
-            (λ (t : (i ≢ id) × (get_elem? s.views i ≡ m.some u)). All-weaker (IsTaken s.views later) (IsTaken (set s.views id w) later') taken_more u.joined (h.taken i u t.1 l))
+            (λ (t : (i ≡ id) × (w ≡ u)). All-weaker (IsTaken key s.views later) (IsTaken key (set s.views id w) later') taken_more u.joined (subst (All (IsTaken key s.views later)) (ap (λ (z : View). z.joined) t.1) (h.taken id v at live)))
+            (λ (t : (i ≢ id) × (get_elem? s.views i ≡ m.some u)). All-weaker (IsTaken key s.views later) (IsTaken key (set s.views id w) later') taken_more u.joined (h.taken i u t.1 l))
             (at_set s.views id i w u x);
         spent = λ i u x l. ⊎_elim
             (λ (t : (i ≡ id) × (w ≡ u)). absurd (false≢true (sym l ∙ (ap (λ (z : View). z.live) (sym t.1) ∙ live))))

@@ -51,6 +51,7 @@ module _ {V : Type 0} (keeping : V → Keeping) (key : Opened) (later : List Ent
     timed = f.timed;
     owned = f.owned;
     whose = f.whose;
+    hand = f.hand;
     lights = λ b j h. let o = f.lights b j h in (o.0, o.1, r.light b j o.0 o.1 o.2);
     sized = f.sized;
     settled = λ b n.
@@ -108,8 +109,8 @@ spent_stays views id v w c at live d =
     let ne : c ≢ id = λ y. let vu : v ≡ d.view = some-injective v d.view (sym at ∙ (ap (get_elem? views) (sym y) ∙ d.at)) in let x : v.live ≡ false = ap (λ (z : View). z.live) vu ∙ d.spent in absurd (cc) in
     record { view = d.view; at = set_else views id c w ne ∙ d.at; spent = d.spent }
 
-pub taken_stays : (views : List View) (id : ℕ) (v w : View) (later : List Entry) (x : TakenIn) → get_elem? views id ≡ m.some v → v.live ≡ true → IsTaken views later x → IsTaken (set views id w) later x
-taken_stays views id v w later x at live t = record { noted = t.noted; spent = spent_stays views id v w x.caller at live t.spent }
+pub taken_stays : (key : Opened) (views : List View) (id : ℕ) (v w : View) (later : List Entry) (x : TakenIn) → get_elem? views id ≡ m.some v → v.live ≡ true → IsTaken key views later x → IsTaken key (set views id w) later x
+taken_stays key views id v w later x at live t = record { rest = t.rest; seen = t.seen; hand = t.hand; noted = t.noted; spent = spent_stays views id v w x.caller at live t.spent }
 
 pub hands_same : (key : Opened) (st : State) (later : List Entry) (views : List View) (id : ℕ) (v w : View) → get_elem? views id ≡ m.some v → v.live ≡ true → w.live ≡ true → w.pairs ≡ v.pairs → w.given ≡ v.given → w.joined ≡ v.joined
     → HandsKeep key st later views → HandsKeep key st later (set views id w)
@@ -127,9 +128,9 @@ hands_same key st later views id v w at live live' pairs given joined h = record
       (λ (t : (0 ≢ id) × (get_elem? views 0 ≡ m.some u)). h.undealt u c t.1 l g)
       (at_set views id 0 w u e);
   taken = λ i u e l. ⊎_elim
-      (λ (t : (i ≡ id) × (w ≡ u)). All-weaker (IsTaken views later) (IsTaken (set views id w) later) (λ x y. taken_stays views id v w later x at live y) u.joined
-      (subst (All (IsTaken views later)) (sym joined ∙ ap (λ (z : View). z.joined) t.1) (h.taken id v at live)))
-      (λ (t : (i ≢ id) × (get_elem? views i ≡ m.some u)). All-weaker (IsTaken views later) (IsTaken (set views id w) later) (λ x y. taken_stays views id v w later x at live y) u.joined (h.taken i u t.1 l))
+      (λ (t : (i ≡ id) × (w ≡ u)). All-weaker (IsTaken key views later) (IsTaken key (set views id w) later) (λ x y. taken_stays key views id v w later x at live y) u.joined
+      (subst (All (IsTaken key views later)) (sym joined ∙ ap (λ (z : View). z.joined) t.1) (h.taken id v at live)))
+      (λ (t : (i ≢ id) × (get_elem? views i ≡ m.some u)). All-weaker (IsTaken key views later) (IsTaken key (set views id w) later) (λ x y. taken_stays key views id v w later x at live y) u.joined (h.taken i u t.1 l))
       (at_set views id i w u e);
   spent = λ i u e l. ⊎_elim
       (λ (t : (i ≡ id) × (w ≡ u)). let x : u.live ≡ true = ap (λ (z : View). z.live) (sym t.1) ∙ live' in absurd (cc))

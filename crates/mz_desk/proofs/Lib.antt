@@ -8,3 +8,4 @@ mod PairLemmas
 mod DrawSteps
 mod SeatSteps
 mod OpenSteps
+mod EndLemmas

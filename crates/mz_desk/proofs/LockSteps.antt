@@ -44,7 +44,7 @@ module _ {V : Type 0} (keeping : V → Keeping) (key : Opened) (id : ℕ) (me : 
       let w = clashed me.0 i x n in
       subst (λ (ws : List ℕ). Kept keeping key record { words = ws; homes = s.homes; views = set s.views id w } later) (sym (set-get_or s.words i 0))
       (moves keeping key s later id v w s.words s.homes kept at live (refl, refl, refl, live) refl refl refl
-      record { profile = f.profile; space = f.space; start = f.start; dealt = f.dealt; caller = f.caller; rest = f.rest; seen = f.seen; away = f.away; noted = f.noted; held = f.held; taking = f.taking; since = All-weaker (IsAloneSince key.profile id (all_of key later) v) (IsAloneSince key.profile id (all_of key later) w) (λ y a. record { there = a.there; within = a.within; alone = a.alone }) v.since f.since; timed = f.timed; owned = f.owned; whose = f.whose; lights = f.lights; sized = f.sized; settled = f.settled }
+      record { profile = f.profile; space = f.space; start = f.start; dealt = f.dealt; caller = f.caller; rest = f.rest; seen = f.seen; away = f.away; noted = f.noted; held = f.held; taking = f.taking; since = All-weaker (IsAloneSince key.profile id (all_of key later) v) (IsAloneSince key.profile id (all_of key later) w) (λ y a. record { there = a.there; within = a.within; alone = a.alone }) v.since f.since; timed = f.timed; owned = f.owned; whose = f.whose; hand = f.hand; lights = f.lights; sized = f.sized; settled = f.settled }
       (λ j ne. rely_same keeping key (state_after key later) s.words s.homes j)
       (locks_same keeping key (state_after key later) s.words s.words s.homes s.views id v w (λ k l. refl) at live refl refl kept.locks)
       (lights_same key.profile (state_after key later) s.words s.words s.views id v w (λ b j l k. refl) at live refl refl kept.lights)
@@ -92,6 +92,7 @@ module _ {V : Type 0} (keeping : V → Keeping) (key : Opened) (id : ℕ) (me : 
             (or_either (is_among v.held j) (is_among (k ∷ []) j) y);
         owned = f.owned;
         whose = f.whose;
+        hand = f.hand;
         lights = λ b j y. let o = f.lights b j y in (o.0, o.1, dark b j ∙ o.2);
         sized = f.sized;
         settled = λ b n. class b ∙ f.settled b n;
@@ -176,6 +177,7 @@ module _ {V : Type 0} (keeping : V → Keeping) (key : Opened) (L : DeskLaws) (i
         timed = λ j y. f.timed j (back j y);
         owned = λ u b. let o = owners_part s.views id v b at in let e = kept.hands.in_one_hand b ∙ ap (λ es. one_for (is_live (after_all p opening es) b)) f.seen in omega arith;
         whose = f.whose;
+        hand = f.hand;
         lights = f.lights;
         sized = f.sized;
         settled = f.settled;
@@ -274,6 +276,7 @@ module _ {V : Type 0} (keeping : V → Keeping) (key : Opened) (L : DeskLaws) (i
         timed = λ j y. let o = less j y in timed_less k j v.since o.1 (f.timed j o.0);
         owned = f.owned;
         whose = f.whose;
+        hand = f.hand;
         lights = λ b j y. let o = f.lights b j y in (o.0, o.1, dark b j ∙ o.2);
         sized = f.sized;
         settled = λ b n. class b ∙ f.settled b n;

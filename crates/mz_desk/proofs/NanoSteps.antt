@@ -108,6 +108,7 @@ module _ {V : Type 0} (keeping : V → Keeping) (key : Opened) (L : DeskLaws) (i
         timed = f.timed;
         owned = f.owned;
         whose = f.whose;
+        hand = f.hand;
         lights = λ c k h. ⊎_elim
             (λ (t : same_light (light_at c k) (light_at b j) ≡ true). let e = light_eq c k b j t in (subst (λ (x : ℕ). x < p.nano) (sym e.0) lb, subst (λ (x : ℕ). x < 1024) (sym e.1) lj, ap (λ (x : ℕ). light_word p words' x k) e.0 ∙ (ap (λ (x : ℕ). light_word p words' b x) e.1 ∙ now)))
             (λ (t : has_light v.lights (light_at c k) ≡ true). let o = f.lights c k t in (o.0, o.1, else_ (slot_place p c k) (apart c k id o.2) ∙ o.2))
@@ -260,6 +261,7 @@ module _ {V : Type 0} (keeping : V → Keeping) (key : Opened) (L : DeskLaws) (i
         timed = f.timed;
         owned = f.owned;
         whose = f.whose;
+        hand = f.hand;
         lights = λ c k h.
             let t = and_parts (not (same_light (light_at c k) (light_at b j))) (has_light v.lights (light_at c k)) (sym (L.light_given v.lights (light_at b j) (light_at c k)) ∙ h) in
             let o = f.lights c k t.1 in (
@@ -344,6 +346,7 @@ module _ {V : Type 0} (keeping : V → Keeping) (key : Opened) (L : DeskLaws) (i
         timed = f.timed;
         owned = f.owned;
         whose = f.whose;
+        hand = f.hand;
         lights = λ c k h. let o = f.lights c k h in (o.0, o.1, dark c k ∙ o.2);
         sized = length-set v.settled b class ∙ f.sized;
         settled = λ c d. ⊎_elim

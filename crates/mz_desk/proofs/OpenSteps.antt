@@ -73,6 +73,7 @@ module _ {V : Type 0} (keeping : V → Keeping) (key : Opened) (ws : List ℕ) (
     timed = λ k h. absurd (false≢true h);
     owned = λ u b. let o = can.in_one_hand b in omega arith;
     whose = whose;
+    hand = refl;
     lights = λ b j h. absurd (false≢true h);
     sized = length-replicate p.nano 0;
     settled = λ b n. absurd (n (nothing p.nano b 0));
@@ -100,7 +101,7 @@ module _ {V : Type 0} (keeping : V → Keeping) (key : Opened) (ws : List ℕ) (
       in_one_hand = λ b. ap (λ ps. owners ps b) (append-nil key.pairs) ∙ (can.in_one_hand b ∙ ap (λ (t : State). one_for (is_live t b)) (sym state_same));
       gives = λ u e l. ap (λ (z : View). z.given) (sym (only_first v u 0 e).1);
       undealt = λ u c e l g. ap (λ (z : View). pairs_of c z.pairs) (sym (only_first v u 0 e).1);
-      taken = λ i u e l. subst (λ (z : View). All (IsTaken (v ∷ []) []) z.joined) (only_first v u i e).1 (All-nil (IsTaken (v ∷ []) []));
+      taken = λ i u e l. subst (λ (z : View). All (IsTaken key (v ∷ []) []) z.joined) (only_first v u i e).1 (All-nil (IsTaken key (v ∷ []) []));
       spent = λ i u e l. absurd (false≢true (sym l ∙ ap (λ (z : View). z.live) (sym (only_first v u i e).1)));
     };
     lights = record { each = λ b j lb lj. inl (can.lights b j lb lj ∙ ap (λ (t : State). one_for (is_slot_live p t b j)) (sym state_same)) };

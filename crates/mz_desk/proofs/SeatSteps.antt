@@ -1,6 +1,6 @@
 -- Seats are cut from seat 0 and taken in again: split-seat and join-seat.
 use Rattle.std.proofs.Common.{◌≡◌, ◌≢◌, ℕ, ◌+◌, ◌<◌, ◌≤◌, ◌==◌, Bool, true, false, cond, not, ◌⊎◌, List, [], ◌∷◌, ◌++◌, length, get_or, set, replicate, Option, refl, sym, ap, ◌∙◌, subst, arith, eq-eqb, ne_eqb, inl, inr, ⊎_elim, zero, suc, length-set, length-append, append-nil}
-use Rattle.std.specs.Prelude.{◌||◌, filter}
+use Rattle.std.specs.Prelude.{◌||◌, filter, map}
 use Rattle.std.specs.List.{All, list_any}
 use Rattle.std.proofs.lemmas.List.{length-replicate}
 use Rattle.std.proofs.lemmas.List.Elements.{All-nil, All-cons, All-head, All-tail, All-append, All-weaker, filter-append}
@@ -18,7 +18,7 @@ use Rattle.mz_events.specs.Places.{Spot, keeper_at, nano_page}
 use Rattle.mz_events.specs.State.{State, opening}
 use Rattle.mz_events.specs.Changes.{one_for}
 use Rattle.mz_events.specs.History.{after_all}
-use Rattle.mz_events.specs.Hands.{own}
+use Rattle.mz_events.specs.Hands.{own, hand_through}
 use Rattle.mz_events.specs.Holding.{changes_zones, IsAway, AreAway}
 use Rattle.mz_events.specs.Standing.{Keeping}
 use Rattle.mz_book.specs.declared.pair.Pair.{Pair}
@@ -35,7 +35,7 @@ use Rattle.mz_desk.specs.Seats.{giver, given_view, joined_view, spent_view, CanG
 use Rattle.mz_desk.specs.Rule.{all_of, state_after, IsAloneSince, IsWhose, SeatKeeps, LightOwner, IsSpent, IsTaken, HandsKeep, LightsKeep, LocksKeep, Kept, Rule}
 use Rattle.mz_desk.proofs.ListLemmas.{or_left, or_right, set_there, at_length, snoc_at}
 use Rattle.mz_desk.proofs.Frames.{lock_owner, spent_stays}
-use Rattle.mz_desk.proofs.Knowing.{owners_append, owners_set, slot_append}
+use Rattle.mz_desk.proofs.Knowing.{owners_append, owners_set, slot_append, hand_append}
 
 -- the pairs of one number, and those of the others
 
@@ -77,6 +77,14 @@ of_all Q g f (x ∷ xs) = of_case Q g x (pairs_of g xs) (x.caller == g) refl (f 
 none_of : (c d : ℕ) → c ≢ d → (hs : List Pair) → All (λ h. h.caller ≡ d) hs → pairs_of c hs ≡ []
 none_of c d n [] h = refl
 none_of c d n (x ∷ xs) h = rw (ne_eqb x.caller c (λ e. n (sym e ∙ All-head (λ (y : Pair). y.caller ≡ d) x xs h))) (none_of c d n xs (All-tail (λ (y : Pair). y.caller ≡ d) x xs h))
+
+twice_case : (c : ℕ) (x : Pair) (xs : List Pair) (d : Bool) → (x.caller == c) ≡ d → pairs_of c xs ≡ xs → pairs_of c (cond d (x ∷ xs) xs) ≡ cond d (x ∷ xs) xs
+twice_case c x xs true e h = rw e (ap (λ ys. x ∷ ys) h)
+twice_case c x xs false e h = h
+
+pairs_twice : (c : ℕ) (hs : List Pair) → pairs_of c (pairs_of c hs) ≡ pairs_of c hs
+pairs_twice c [] = refl
+pairs_twice c (x ∷ xs) = twice_case c x (pairs_of c xs) (x.caller == c) refl (pairs_twice c xs)
 
 owners_snoc : (views : List View) (u : View) (b : Block) → owners (all_pairs (views ++ u ∷ [])) b ≡ owners (all_pairs views) b + owners u.pairs b
 owners_snoc [] u b = let e = ap (λ ps. owners ps b) (append-nil u.pairs) in omega arith
@@ -174,6 +182,7 @@ module _ {V : Type 0} (keeping : V → Keeping) (key : Opened) (L : DeskLaws) (i
         (λ (t : h.caller ≡ id). inl t)
         (λ (t : ((id ≡ 0) × (v.given ≤ h.caller)) ⊎ (took_in v h.caller ≡ true)). ⊎_elim (λ (y : (id ≡ 0) × (v.given ≤ h.caller)). let l = y.1 in inr (inl (y.0, omega (arith, n)))) (λ (y : took_in v h.caller ≡ true). inr (inr y)) t)
         o) v.pairs f.whose;
+    hand = let g = given in let l = at_length s.views id v at in ap (map block_of) (of_besides id v.given v.pairs (λ e. omega arith)) ∙ f.hand;
     lights = f.lights;
     sized = f.sized;
     settled = f.settled;
@@ -201,6 +210,7 @@ module _ {V : Type 0} (keeping : V → Keeping) (key : Opened) (L : DeskLaws) (i
         let z = ap (λ es. one_for (is_live (after_all p opening es) x)) f.start in
         omega arith;
     whose = of_all (IsWhose new b) v.given (λ h e. inl (e ∙ given)) v.pairs;
+    hand = ap (map block_of) (ap (λ (c : ℕ). pairs_of c (pairs_of v.given v.pairs)) (sym given) ∙ (pairs_twice v.given v.pairs ∙ (undealt v.given (omega arith) ∙ ap (λ (c : ℕ). pairs_of c key.pairs) given)));
     lights = λ x j h. absurd (false≢true h);
     sized = length-replicate v.profile.nano 0 ∙ ap (λ (q : Profile). q.nano) f.profile;
     settled = λ x n. absurd (n (zeros v.profile.nano x 0));
@@ -231,12 +241,12 @@ module _ {V : Type 0} (keeping : V → Keeping) (key : Opened) (L : DeskLaws) (i
         (λ (t : (0 ≡ length views1) × (b ≡ u)). let y = id_few in let z = len1 in absurd (omega arith))
         (snoc_at views1 b u 0 e);
     taken = λ i u e l. ⊎_elim
-        (λ (t : get_elem? views1 i ≡ m.some u). All-weaker (IsTaken s.views later) (IsTaken views' later) (λ x q. record { noted = q.noted; spent = spent_longer views1 b x.caller (spent_stays s.views id v a x.caller at can.live q.spent) }) u.joined
+        (λ (t : get_elem? views1 i ≡ m.some u). All-weaker (IsTaken key s.views later) (IsTaken key views' later) (λ x q. record { rest = q.rest; seen = q.seen; hand = q.hand; noted = q.noted; spent = spent_longer views1 b x.caller (spent_stays s.views id v a x.caller at can.live q.spent) }) u.joined
         (⊎_elim
-        (λ (y : (i ≡ id) × (a ≡ u)). subst (λ (z : View). All (IsTaken s.views later) z.joined) y.1 (kept.hands.taken id v at can.live))
+        (λ (y : (i ≡ id) × (a ≡ u)). subst (λ (z : View). All (IsTaken key s.views later) z.joined) y.1 (kept.hands.taken id v at can.live))
         (λ (y : (i ≢ id) × (get_elem? s.views i ≡ m.some u)). kept.hands.taken i u y.1 l)
         (at_set s.views id i a u t)))
-        (λ (t : (i ≡ length views1) × (b ≡ u)). subst (λ (z : View). All (IsTaken views' later) z.joined) t.1 (All-nil (IsTaken views' later)))
+        (λ (t : (i ≡ length views1) × (b ≡ u)). subst (λ (z : View). All (IsTaken key views' later) z.joined) t.1 (All-nil (IsTaken key views' later)))
         (snoc_at views1 b u i e);
     spent = λ i u e l. ⊎_elim
         (λ (t : get_elem? views1 i ≡ m.some u). ⊎_elim
@@ -378,6 +388,7 @@ module _ {V : Type 0} (keeping : V → Keeping) (key : Opened) (L : DeskLaws) (i
         (λ (t : ((id ≡ 0) × (v.given ≤ h.caller)) ⊎ (took_in v h.caller ≡ true)). ⊎_elim (λ (y : (id ≡ 0) × (v.given ≤ h.caller)). inr (inl y)) (λ (y : took_in v h.caller ≡ true). inr (inr (or_right (w.caller == h.caller) (took_in v h.caller) y))) t)
         o) v.pairs fv.whose)
         (All-weaker (λ (h : Pair). h.caller ≡ other) (IsWhose id both) (λ h e. inr (inr (or_left (w.caller == h.caller) (took_in v h.caller) (eq-eqb w.caller h.caller (fw.caller ∙ sym e))))) w.pairs its_own);
+    hand = hand_append id v.pairs w.pairs ∙ (ap (λ (hs : List Pair). hand_among id v.pairs ++ map block_of hs) (none_of id other (λ e. apart (sym e)) w.pairs its_own) ∙ (append-nil (hand_among id v.pairs) ∙ fv.hand));
     lights = fv.lights;
     sized = fv.sized;
     settled = fv.settled;
@@ -414,11 +425,11 @@ module _ {V : Type 0} (keeping : V → Keeping) (key : Opened) (L : DeskLaws) (i
     taken = λ i u e l. ⊎_elim
         (λ (t : (i ≡ other) × (spent_view ≡ u)). absurd (false≢true (ap (λ (z : View). z.live) t.1 ∙ l)))
         (λ (t : (i ≢ other) × (get_elem? viewsb i ≡ m.some u)). ⊎_elim
-        (λ (y : (i ≡ id) × (both ≡ u)). subst (λ (z : View). All (IsTaken viewsj later) z.joined) y.1
-        (All-cons (IsTaken viewsj later) (record { caller = w.caller; noted = w.noted }) v.joined
-        record { noted = fw.noted ∙ ap (λ (n : ℕ). own n later) (sym fw.caller); spent = subst (IsSpent viewsj) (sym fw.caller) (record { view = spent_view; at = spent_at; spent = refl }) }
-        (All-weaker (IsTaken s.views later) (IsTaken viewsj later) (λ x a. record { noted = a.noted; spent = keep_spent x.caller a.spent }) v.joined (kept.hands.taken id v at can.live))))
-        (λ (y : (i ≢ id) × (get_elem? s.views i ≡ m.some u)). All-weaker (IsTaken s.views later) (IsTaken viewsj later) (λ x a. record { noted = a.noted; spent = keep_spent x.caller a.spent }) u.joined (kept.hands.taken i u y.1 l))
+        (λ (y : (i ≡ id) × (both ≡ u)). subst (λ (z : View). All (IsTaken key viewsj later) z.joined) y.1
+        (All-cons (IsTaken key viewsj later) (record { caller = w.caller; seen = w.seen; noted = w.noted; pairs = w.pairs }) v.joined
+        record { rest = fw.rest; seen = fw.seen; hand = subst (λ (c : ℕ). hand_among c w.pairs ≡ hand_through (hand_among c key.pairs) w.noted) (sym fw.caller) fw.hand; noted = fw.noted ∙ ap (λ (n : ℕ). own n later) (sym fw.caller); spent = subst (IsSpent viewsj) (sym fw.caller) (record { view = spent_view; at = spent_at; spent = refl }) }
+        (All-weaker (IsTaken key s.views later) (IsTaken key viewsj later) (λ x a. record { rest = a.rest; seen = a.seen; hand = a.hand; noted = a.noted; spent = keep_spent x.caller a.spent }) v.joined (kept.hands.taken id v at can.live))))
+        (λ (y : (i ≢ id) × (get_elem? s.views i ≡ m.some u)). All-weaker (IsTaken key s.views later) (IsTaken key viewsj later) (λ x a. record { rest = a.rest; seen = a.seen; hand = a.hand; noted = a.noted; spent = keep_spent x.caller a.spent }) u.joined (kept.hands.taken i u y.1 l))
         (at_set s.views id i both u t.1))
         (at_set viewsb other i spent_view u e);
     spent = λ i u e l. ⊎_elim

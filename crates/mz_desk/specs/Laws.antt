@@ -9,12 +9,12 @@ use Rattle.mz_base.specs.Lists.{has_block}
 use Rattle.mz_events.specs.State.{State, opening, value_at, kept_at}
 use Rattle.mz_events.specs.Effect.{touches, after}
 use Rattle.mz_events.specs.History.{IsLawful, AreLawful, after_entry, after_all}
-use Rattle.mz_events.specs.Hands.{own}
+use Rattle.mz_events.specs.Hands.{own, hand_after, hand_through}
 use Rattle.mz_events.specs.Holding.{AreAway, IsKnownThrough}
 use Rattle.mz_book.specs.declared.light.Light.{Light}
 use Rattle.mz_book.specs.declared.pair.Pair.{Pair}
 use Rattle.mz_book.specs.Keepers.{keeper_count, keeper_spot, is_among, is_held}
-use Rattle.mz_book.specs.Pairs.{hand_among}
+use Rattle.mz_book.specs.Pairs.{hand_among, pairs_after}
 use Rattle.mz_book.specs.Lights.{has_slot, is_slot_live, same_light, has_light, add_light, drop_light}
 use Rattle.mz_book.specs.Account.{Account}
 use Rattle.mz_book.specs.Calls.{CanNote}
@@ -29,6 +29,8 @@ pub record DeskLaws : Type 0 where
   pub after_joined : (p : Profile) (s : State) (xs ys : List Entry) → after_all p s (xs ++ ys) ≡ after_all p (after_all p s xs) ys
   pub counted : (p : Profile) (s : State) (xs : List Entry) → (after_all p s xs).entries ≡ s.entries + length xs
   pub own_joined : (c : ℕ) (xs ys : List Entry) → own c (xs ++ ys) ≡ own c xs ++ own c ys
+  pub hand_joined : (hand : List Block) (xs ys : List Entry) → hand_through hand (xs ++ ys) ≡ hand_through (hand_through hand xs) ys
+  pub hand_own : (c : ℕ) (pairs : List Pair) (e : Event) → hand_among c (pairs_after c pairs e) ≡ hand_after (hand_among c pairs) e
   pub known_through : (p : Profile) (c : ℕ) (held : Spot → Bool) (s : State) (es : List Entry) → AreAway p c held es → IsKnownThrough p c held s es
   pub held_at : (p : Profile) (held : List ℕ) (k : ℕ) → k < keeper_count p → is_held p held (keeper_spot p k) ≡ is_among held k
   pub sizes : (p : Profile) (es : List Entry) (j : Spot) (x : Block) → AreLawful p opening es → IsTrue (has_block (kept_at (after_all p opening es) j).live x) → 1 ≤ x.size

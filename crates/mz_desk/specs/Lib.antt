@@ -6,3 +6,5 @@ pub mod Steps
 pub mod Seats
 pub mod Laws
 pub mod Opening
+pub mod Keys
+pub mod Ending

@@ -37,7 +37,7 @@ pub record CanLook (v : View) (k : ℕ) : Type 0 where
 pub record CanDraw (v : View) (e : Event) : Type 0 where
   pub idle : IsIdle v
   pub room : length v.noted < 2 ^ 58
-  pub note : CanNote (view_account v 1 0 0 None) e
+  pub note : CanNote (view_account v [] 1 0 0 None) e
 
 -- free-lock: the keeper was taken last, stands for its place, and no duty stands there
 pub record CanFree {V : Type 0} (keeping : V → Keeping) (me : Seated V) (k : ℕ) (x : V) : Type 0 where

@@ -15,7 +15,7 @@ use Rattle.mz_events.specs.State.{State, value_at, kept_at, opening}
 use Rattle.mz_events.specs.Changes.{one_for}
 use Rattle.mz_events.specs.Effect.{touches}
 use Rattle.mz_events.specs.History.{AreLawful, after_all}
-use Rattle.mz_events.specs.Hands.{own}
+use Rattle.mz_events.specs.Hands.{own, hand_through}
 use Rattle.mz_events.specs.Holding.{changes_zones, AreAway}
 use Rattle.mz_events.specs.Standing.{Keeping, Stands}
 use Rattle.mz_book.specs.declared.pair.Pair.{Pair}
@@ -64,7 +64,7 @@ IsWhose i v h = (h.caller ≡ i) ⊎ (((i ≡ 0) × (v.given ≤ h.caller)) ⊎ 
 
 -- What holds of the view of the seat i, where it isn't spent. The history is what the seat has seen and some rest, in which nobody
 -- else touched a place that it holds; its record is all that its caller has in it; the words of its locks and lights show it; and
--- the classes that it knows are the words. As long as it took in no other, each of its pairs is there once, and live by what it has seen.
+-- the classes that it knows are the words. Its hand is what its record makes of its caller's hand at the opening. As long as it took in no other, each of its pairs is there once, and live by what it has seen.
 pub record SeatKeeps {V : Type 0} (keeping : V → Keeping) (key : Opened) (later : List Entry) (words : List ℕ) (homes : Homes V) (i : ℕ) (v : View) : Type 0 where
   pub profile : v.profile ≡ key.profile
   pub space : v.space ≡ key.space
@@ -81,6 +81,7 @@ pub record SeatKeeps {V : Type 0} (keeping : V → Keeping) (key : Opened) (late
   pub timed : (k : ℕ) → has_lock v k ≡ true → list_any (λ x. x.keeper == k) v.since ≡ true
   pub owned : v.joined ≡ [] → (b : Block) → owners v.pairs b ≤ one_for (is_live (after_all key.profile opening v.seen) b)
   pub whose : All (IsWhose i v) v.pairs
+  pub hand : hand_among i v.pairs ≡ hand_through (hand_among i key.pairs) v.noted
   pub lights : (b j : ℕ) → has_light v.lights (light_at b j) ≡ true → (b < key.profile.nano) × (j < 1024) × (light_word key.profile words b j ≡ 2 + i)
   pub sized : length v.settled ≡ key.profile.nano
   pub settled : (b : ℕ) → slice_index_or v.settled b 0 ≢ 0 → class_word key.profile words b ≡ slice_index_or v.settled b 0
@@ -110,9 +111,13 @@ pub record IsSpent (views : List View) (c : ℕ) : Type 0 where
   pub at : get_elem? views c ≡ m.some view
   pub spent : view.live ≡ false
 
--- the record of a seat that was taken in
-pub record IsTaken (views : List View) (later : List Entry) (x : TakenIn) : Type 0 where
+-- A seat that was taken in: the history is what it had seen and some rest, its record is all that its caller has in it, and its hand
+-- is what that makes of its caller's hand at the opening.
+pub record IsTaken (key : Opened) (views : List View) (later : List Entry) (x : TakenIn) : Type 0 where
+  pub rest : List Entry
+  pub seen : all_of key later ≡ x.seen ++ rest
   pub noted : x.noted ≡ own x.caller later
+  pub hand : hand_among x.caller x.pairs ≡ hand_through (hand_among x.caller key.pairs) x.noted
   pub spent : IsSpent views x.caller
 
 -- of what the register was opened with
@@ -141,7 +146,7 @@ pub record HandsKeep (key : Opened) (st : State) (later : List Entry) (views : L
   pub in_one_hand : AreInOneHand st (all_pairs views)
   pub gives : (v : View) → get_elem? views 0 ≡ m.some v → v.live ≡ true → v.given ≡ length views
   pub undealt : (v : View) (c : ℕ) → get_elem? views 0 ≡ m.some v → v.live ≡ true → v.given ≤ c → pairs_of c v.pairs ≡ pairs_of c key.pairs
-  pub taken : (i : ℕ) (v : View) → get_elem? views i ≡ m.some v → v.live ≡ true → All (IsTaken views later) v.joined
+  pub taken : (i : ℕ) (v : View) → get_elem? views i ≡ m.some v → v.live ≡ true → All (IsTaken key views later) v.joined
   pub spent : (i : ℕ) (v : View) → get_elem? views i ≡ m.some v → v.live ≡ false → v.pairs ≡ []
 
 -- Part 6: the word of a slot is 1 where its pair is live and 0 where it isn't; or a seat holds its light.

@@ -52,9 +52,10 @@ first_view key = record {
   joined = [];
 }
 
--- the account of a pass whose seat has this view, by the numbers that the pass keeps beside it
-abbrev pub view_account : View → ℕ → ℕ → ℕ → Option Asked → Account
-view_account v spare holds founds found = record {
+-- the account of a pass whose seat has this view, by its name and the numbers that the pass keeps beside it
+abbrev pub view_account : View → List ℕ → ℕ → ℕ → ℕ → Option Asked → Account
+view_account v name spare holds founds found = record {
+  name = name;
   profile = v.profile;
   caller = v.caller;
   site = site_at v.space;

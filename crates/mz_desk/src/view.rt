@@ -1,9 +1,21 @@
-//! What a seat of a register knows. No value of these types is made: they are for proofs alone.
+//! What a register is opened with, and what a seat of it knows. Of all types here but `Opening` no value is made: they are for proofs
+//! alone.
 
 use mz_base::Profile;
 use mz_book::{Light, Pair};
 use mz_events::Entry;
 use std::collections::LinkedList;
+use std::snapshot::Snapshot;
+
+/// What a register is opened with: the profile, the history so far, for each quantum the caller who owns the block that begins there, and
+/// a keeper of the space of all, for contracts alone.
+#[derive(Drop)]
+pub struct Opening<V> {
+    pub profile: Profile,
+    pub history: Vec<Entry>,
+    pub quanta: Vec<u8>,
+    pub site: Snapshot<V>,
+}
 
 /// The space in which the keepers stand for their places.
 pub struct SpaceName {
@@ -39,10 +51,12 @@ pub struct Clash {
     pub found: u64,
 }
 
-/// The record of a seat that was taken in, with its number.
+/// A seat that was taken in: its number, what it had seen, its record and its pairs.
 pub struct TakenIn {
     pub caller: u32,
+    pub seen: LinkedList<Entry>,
     pub noted: LinkedList<Entry>,
+    pub pairs: LinkedList<Pair>,
 }
 
 /// The view of a seat. Lists of loads, wins and clashes have the newest first.
@@ -73,6 +87,6 @@ pub struct View {
     pub loads: LinkedList<Load>,
     pub wins: LinkedList<Win>,
     pub clashes: LinkedList<Clash>,
-    /// The records of the seats that it took in, newest first.
+    /// The seats that it took in, newest first.
     pub joined: LinkedList<TakenIn>,
 }

@@ -1,4 +1,4 @@
-use crate::{Ground, Space, Span};
+use crate::{Estate, Ground, Space, Span};
 use client::{Keeper, put};
 use std::sync::Arc;
 use std::test::Fail;
@@ -60,6 +60,28 @@ fn a_span_is_cut_and_grows_in_place(rt: HostRuntime) -> Result<(), Fail> {
     front = front_again;
     front.extend(rest);
     assert_eq!(rt; (front.len(), front.bytes()[100]), (16384, 7));
+    Ok(())
+}
+
+#[test]
+fn parcels_keep_what_was_written(rt: HostRuntime) -> Result<(), Fail> {
+    let (estate, mut front) = Estate::of(Space::new(rt.alloc(), 1)?);
+    let back = front.cut_off(100);
+    let mut low = estate.lay(front, 0, 100);
+    let mut high = estate.lay(back, 100, 16284);
+    assert_eq!(rt; (low.first(), low.bytes().len()), (0, 100));
+    assert_eq!(rt; (high.first(), high.bytes().len()), (100, 16284));
+    low.bytes_mut().fill(b'a');
+    high.bytes_mut().fill(b'b');
+    let mut front = low.into_parcel();
+    front.extend(high.into_parcel());
+    let whole = estate.into_span(front);
+    assert_eq!(rt; (whole.first(), whole.len()), (0, 16384));
+    assert_eq!(rt; &whole.bytes()[98..102], b"aabb".as_slice());
+    let (estate, mut front) = Estate::of(whole);
+    is_send_and_sync(front.cut_off(100));
+    is_send_and_sync(estate.lay(front, 0, 100));
+    is_send_and_sync(estate);
     Ok(())
 }
 

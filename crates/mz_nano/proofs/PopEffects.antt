@@ -10,7 +10,7 @@ use Rattle.mz_nano.specs.declared.view.Known.{Known}
 use Rattle.mz_nano.specs.Lists.{In}
 use Rattle.mz_nano.specs.Rule.{IsPiece, IsReady, KnownKeeps, held}
 use Rattle.mz_nano.specs.StepEffects.{Standing, link_loaded, clash_noted, popped, place_given, block_claimed, made_ready, load, win, clash}
-use Rattle.mz_nano.specs.CallEffects.{OnlyLoaded, IsUsable, IsNewlyReady, Skipped, TookFirst, Popped, ClaimPopped, ClaimLost, Exhausts, Contends, cut_view}
+use Rattle.mz_nano.specs.CallEffects.{OnlyLoaded, IsUsable, IsNewlyReady, InOrder, NoneUsable, Skipped, TookFirst, Popped, ClaimPopped, ClaimLost, Exhausts, Contends, cut_view}
 use Rattle.mz_nano.proofs.SlotSteps.{zero_state}
 use Rattle.mz_nano.proofs.ClaimSteps.{slots_least}
 use Rattle.mz_nano.proofs.ScanLemmas.{skipped_more}
@@ -102,8 +102,8 @@ lost_loaded me me1 me2 me3 more b c w i l n lt live outs claims car ld has usabl
     }
 
 pub none_loaded : (me me1 : Standing) (more : List Load) (c : ℕ) → me.0.live ≡ true → me.0.vacant ≡ [] → me.0.claim ≡ [] → me.1 ≡ [] → OnlyLoaded me.0 me1.0 more → me1.1 ≡ me.1
-    → Skipped me.0.geometry c me.0.geometry.blocks me.0.geometry.blocks more → Exhausts me c me1
-none_loaded me me1 more c live outs claims car ld c1 skipped =
+    → InOrder me.0.geometry.blocks more → NoneUsable me.0.geometry c me.0.geometry.blocks me.0.geometry.blocks more → Exhausts me c me1
+none_loaded me me1 more c live outs claims car ld c1 order skipped =
     let e = ld.view in
     record {
       same = record { live = ap (λ (v : View). v.live) e ∙ live; geometry = ap (λ (v : View). v.geometry) e; parts = ap (λ (v : View). v.parts) e; outs = ap (λ (v : View). v.vacant) e ∙ outs; claims = ap (λ (v : View). v.claim) e ∙ claims; carried = c1 ∙ car };
@@ -113,6 +113,7 @@ none_loaded me me1 more c live outs claims car ld c1 skipped =
       clashes = ap (λ (v : View). v.clashes) e;
       more = more;
       loads = ap (λ (v : View). v.loads) e;
+      order = order;
       none = λ b l. let t = skipped b l in (t.0, t.1, t.2, λ z. let q = t.3 z in omega arith);
     }
 

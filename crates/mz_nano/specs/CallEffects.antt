@@ -1,5 +1,5 @@
 -- What the calls say of the seat that makes them. This project's own.
-use Rattle.std.specs.Prelude.{◌≡◌, ◌≢◌, ℕ, ◌+◌, ◌-◌, ◌*◌, ◌<◌, ◌≤◌, ◌⊎◌, ◌&&◌, nat_lt, if◌then◌else◌, ◌^◌, Bool, true, false, List, [], ◌∷◌, ◌++◌, length, Option}
+use Rattle.std.specs.Prelude.{◌≡◌, ◌≢◌, ℕ, zero, suc, ◌+◌, ◌-◌, ◌*◌, ◌<◌, ◌≤◌, ◌⊎◌, ◌&&◌, nat_lt, if◌then◌else◌, ◌^◌, Bool, true, false, List, [], ◌∷◌, ◌++◌, length, map, Option}
 use Rattle.atomic_table.specs.Seated.{TableId}
 use Rattle.atomic_table.specs.declared.shared.Seat.{Seat}
 use Rattle.mz_ground.specs.Views.{SpanView}
@@ -84,9 +84,26 @@ pub record PutsBack (G j : ℕ) (x y : NanoWord) : Type 0 where
   pub state : y.state ≡ x.state
   pub generation : y.generation ≡ (if nat_lt x.generation G then x.generation + 1 else x.generation)
 
+-- the numbers below k, the greatest first
+abbrev pub below : ℕ → List ℕ
+below zero = []
+below (suc k) = k ∷ below k
+
+-- these loads, newest first, are of the words of the blocks below k, one of each, from block 0 on
+abbrev pub InOrder : ℕ → List Load → Type 0
+InOrder k scan = map (λ l. l.word) scan ≡ below k
+
 -- of each block below k a word was loaded that isn't usable, and below `first` none was unassigned
-abbrev pub Skipped : Geometry → ℕ → ℕ → ℕ → List Load → Type 0
-Skipped geometry c k first more = (b : ℕ) → b < k → (n : ℕ) × In (load b n) more × (IsUsable geometry c n → ⊥) × ((word_of n).state ≡ 0 → first ≤ b)
+abbrev pub NoneUsable : Geometry → ℕ → ℕ → ℕ → List Load → Type 0
+NoneUsable geometry c k first scan = (b : ℕ) → b < k → (n : ℕ) × In (load b n) scan × (IsUsable geometry c n → ⊥) × ((word_of n).state ≡ 0 → first ≤ b)
+
+-- the first of these loads were of the blocks below k, in order, and passed them all
+pub record Skipped (geometry : Geometry) (c k first : ℕ) (more : List Load) : Type 0 where
+  pub later : List Load
+  pub scan : List Load
+  pub loads : more ≡ later ++ scan
+  pub order : InOrder k scan
+  pub each : NoneUsable geometry c k first scan
 
 -- only loads of words were made
 pub record OnlyLoaded (v v' : View) (more : List Load) : Type 0 where
@@ -97,14 +114,15 @@ pub record OnlyLoaded (v v' : View) (more : List Load) : Type 0 where
 abbrev pub IsCandidate : Geometry → ℕ → List Load → List Known → Candidate → Type 0
 IsCandidate geometry c more ks (Candidate.Usable b w x) = (b < geometry.blocks) × ((rest : List Known) × (ks ≡ known b w ∷ rest)) × In (load b w) more × (x ≡ word_of w) × IsUsable geometry c w × IsSound geometry w × Skipped geometry c b 0 more
 IsCandidate geometry c more ks (Candidate.Unassigned b) = (b < geometry.blocks) × In (load b 0) more × Skipped geometry c geometry.blocks b more
-IsCandidate geometry c more ks Candidate.Nothing = Skipped geometry c geometry.blocks geometry.blocks more
+IsCandidate geometry c more ks Candidate.Nothing = InOrder geometry.blocks more × NoneUsable geometry c geometry.blocks geometry.blocks more
 
 -- where a scan stands at the block k
 pub record Scan (me me' : Standing) (c k fresh : ℕ) : Type 0 where
   pub more : List Load
   pub loaded : OnlyLoaded me.0 me'.0 more
   pub carried : me'.1 ≡ me.1
-  pub passed : Skipped me.0.geometry c k fresh more
+  pub order : InOrder k more
+  pub passed : NoneUsable me.0.geometry c k fresh more
   pub first : fresh < me.0.geometry.blocks → In (load fresh 0) more
   pub early : fresh < me.0.geometry.blocks → fresh < k
 
@@ -142,7 +160,7 @@ pub record Popped (me : Standing) (b j c : ℕ) (s : SpanView) (me' : Standing) 
   pub piece : IsPiece me.0.geometry b (16 * c * j) (16 * c) s
   pub room : length me.0.hand ≤ me.0.geometry.blocks * 1024
 
--- each block's word was loaded, and was neither usable nor unassigned
+-- each block's word was loaded, in order, and was neither usable nor unassigned
 pub record Exhausts (me : Standing) (c : ℕ) (me' : Standing) : Type 0 where
   pub same : StaysAtRest me me'
   pub hand : me'.0.hand ≡ me.0.hand
@@ -151,6 +169,7 @@ pub record Exhausts (me : Standing) (c : ℕ) (me' : Standing) : Type 0 where
   pub clashes : me'.0.clashes ≡ me.0.clashes
   pub more : List Load
   pub loads : me'.0.loads ≡ more ++ me.0.loads
+  pub order : InOrder me.0.geometry.blocks more
   pub none : (b : ℕ) → b < me.0.geometry.blocks → (n : ℕ) × In (load b n) more × (IsUsable me.0.geometry c n → ⊥) × ((word_of n).state ≢ 0)
 
 -- by these loads b is the block to try: the first that was usable, by the word x, or else, where none was, the first unassigned one, and x is 0

@@ -13,12 +13,12 @@ use crate::rule::TakeIn;
 use crate::seat::NanoSeat;
 use crate::view::View;
 use atomic_table::{Closed, Seat};
-use mz_ground::Span;
+use mz_ground::{Parcel, Span};
 use mz_nanoword::NanoWord;
 use std::alloc::Global;
 
 // Takes what is in the place `i`, after all before it.
-fn take_next(closed: &mut Closed<Option<Span>, Global>, i: usize) -> Option<Span>
+fn take_next(closed: &mut Closed<Option<Parcel>, Global>, i: usize) -> Option<Parcel>
     requires within { i < slots_len closed.old.slots }
     requires before { TakenTo i (slots_len closed.old.slots) (slots_filled closed.old.slots) }
     ensures value { get_elem? (slots_items closed.old.slots) i ≡ some result }
@@ -28,7 +28,7 @@ fn take_next(closed: &mut Closed<Option<Span>, Global>, i: usize) -> Option<Span
     closed.take(i)
 }
 
-// How many places of the block have a span.
+// How many places of the block have a parcel.
 fn count_pieces(word: &NanoWord) -> u64
     requires { word.now.state ≤ 16 }
     ensures { (w : ℕ) → word.now ≡ word_of w → result ≡ pieces w }
@@ -40,14 +40,14 @@ fn count_pieces(word: &NanoWord) -> u64
     }
 }
 
-// Takes all places of the block `b`, the first `n` of which have its spans, and puts these behind `whole`.
+// Takes all places of the block `b`, the first `n` of which have its parcels, and puts these behind `whole`.
 fn gather_block(
-    closed: &mut Closed<Option<Span>, Global>,
-    whole: Span,
+    closed: &mut Closed<Option<Parcel>, Global>,
+    whole: Parcel,
     b: u64,
     w: u64,
     n: u64,
-) -> Span
+) -> Parcel
     requires within { (n ≤ 1025) × (b < 2 ^ 50) × (b * 1025 + 1025 ≤ slots_len closed.old.slots) }
     requires before { TakenTo (b * 1025) (slots_len closed.old.slots) (slots_filled closed.old.slots) }
     requires block { (key : Geometry) × EndedBlock key b w (slots_items closed.old.slots) × (n ≡ pieces w) × (whole.space ≡ key.edge.space) × (whole.first ≡ key.edge.first) × (length whole.bytes ≡ b * 16384) }
@@ -61,7 +61,7 @@ fn gather_block(
     let mut whole = whole;
     for j in 0..n {
         match take_next(closed, (b * PLACES + j) as usize) {
-            Some(span) => whole.extend(span),
+            Some(parcel) => whole.extend(parcel),
             None => unreachable!(),
         }
     }
@@ -71,8 +71,8 @@ fn gather_block(
     whole
 }
 
-// All spans in a row, behind the empty one.
-fn gather(closed: Closed<Option<Span>, Global>, edge: Span, blocks: u64) -> Span
+// All parcels in a row, behind the empty one.
+fn gather(closed: Closed<Option<Parcel>, Global>, edge: Parcel, blocks: u64) -> Parcel
     requires full { IsFull closed.words × IsFull closed.slots }
     requires counts { (slots_len closed.words ≡ blocks * 1025) × (slots_len closed.slots ≡ blocks * 1025) × (blocks < 2 ^ 50) }
     requires empty { length edge.bytes ≡ 0 }
@@ -109,7 +109,7 @@ fn none_held(seats: &Vec<NanoSeat>) -> bool
 
 impl Nano {
     // Puts seats with empty hands together.
-    fn join_all(&self, seats: Vec<NanoSeat>) -> Seat<Option<Span>, View>
+    fn join_all(&self, seats: Vec<NanoSeat>) -> Seat<Option<Parcel>, View>
         requires some { 1 ≤ length seats.items }
         requires idle { AllIdle self.now.table.shared.table_id self.now.table.shared.key seats.items }
         ensures { Alone self.now.table.shared.table_id self.now.table.shared.key (2 * length seats.items) result }
@@ -142,9 +142,10 @@ impl Nano {
             blocks,
             most_gen: _,
             edge,
+            estate,
         } = self;
         let closed = table.close_with(all);
-        gather(closed, edge, blocks)
+        estate.into_span(gather(closed, edge, blocks))
     }
 
     /// Ends a nano, with all its seats. Ok with the whole span exactly where every hand is empty, else

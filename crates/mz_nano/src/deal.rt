@@ -13,7 +13,7 @@ use crate::rule::{LendPart, PartWithSlot, TakeIn, WhichSlot};
 use crate::seat::NanoSeat;
 use crate::view::View;
 use atomic_table::Seat;
-use mz_ground::Span;
+use mz_ground::Parcel;
 use std::alloc::{AllocError, Global};
 use std::marker::Brand;
 
@@ -29,10 +29,10 @@ pub struct Deal {
 impl Nano {
     fn part_as<A: WhichSlot>(
         &self,
-        seat: &mut Seat<Option<Span>, View>,
+        seat: &mut Seat<Option<Parcel>, View>,
         block: u64,
         slot: u64,
-    ) -> Seat<Option<Span>, View>
+    ) -> Seat<Option<Parcel>, View>
         requires pick { (A.block ≡ block) × (A.slot ≡ slot) }
         requires one { IsSeatOf self.now.table.shared.table_id self.now.table.shared.key seat.old }
         requires can { (seat.old.me.0.live ≡ true) × (2 ≤ seat.old.me.0.parts) × (seat.old.me.0.vacant ≡ []) }
@@ -48,10 +48,10 @@ impl Nano {
 
     fn part(
         &self,
-        seat: &mut Seat<Option<Span>, View>,
+        seat: &mut Seat<Option<Parcel>, View>,
         block: u64,
         slot: u64,
-    ) -> Seat<Option<Span>, View>
+    ) -> Seat<Option<Parcel>, View>
         requires one { IsSeatOf self.now.table.shared.table_id self.now.table.shared.key seat.old }
         requires can { (seat.old.me.0.live ≡ true) × (2 ≤ seat.old.me.0.parts) × (seat.old.me.0.vacant ≡ []) }
         requires mine { (c : ℕ) × In (held block slot c) seat.old.me.0.hand }
@@ -63,7 +63,7 @@ impl Nano {
     }
 
     // A seat with a slot of the hand. The slot leaves the hand.
-    fn give_slot(&self, s: &mut NanoSeat, block: u64, slot: u64) -> Seat<Option<Span>, View>
+    fn give_slot(&self, s: &mut NanoSeat, block: u64, slot: u64) -> Seat<Option<Parcel>, View>
         requires one { BelongsTo self.now s.old }
         requires parts { 2 ≤ s.old.seat.me.0.parts }
         requires mine { (c : ℕ) × In (held block slot c) s.old.seat.me.0.hand }
@@ -80,7 +80,7 @@ impl Nano {
     }
 
     // Takes in a seat with its hand of `n` slots.
-    fn take_in(&self, s: &mut NanoSeat, temp: Seat<Option<Span>, View>, n: u64)
+    fn take_in(&self, s: &mut NanoSeat, temp: Seat<Option<Parcel>, View>, n: u64)
         requires one { BelongsTo self.now s.old }
         requires two { IsSeatOf self.now.table.shared.table_id self.now.table.shared.key temp }
         requires at_rest { IsAtRest temp.me }
@@ -96,7 +96,7 @@ impl Nano {
     }
 
     // A seat with one part and an empty hand.
-    fn lend(&self, s: &mut NanoSeat) -> Seat<Option<Span>, View>
+    fn lend(&self, s: &mut NanoSeat) -> Seat<Option<Parcel>, View>
         requires one { BelongsTo self.now s.old }
         requires parts { 2 ≤ s.old.seat.me.0.parts }
         ensures table { (s.new.seat.table_id ≡ s.old.seat.table_id) × (result.table_id ≡ s.old.seat.table_id) }
@@ -114,7 +114,7 @@ impl Nano {
         i: usize,
         block: u64,
         slot: u64,
-    ) -> Seat<Option<Span>, View>
+    ) -> Seat<Option<Parcel>, View>
         requires within { i < length seats.old.items }
         requires can { (d : NanoSeat) → let s = slice_index_or seats.old.items i d in BelongsTo self.now s × (2 ≤ s.seat.me.0.parts) × ((c : ℕ) × In (held block slot c) (hand_of s)) }
         ensures gives { Gives self.now seats.old.items i block slot seats.new.items result }
@@ -127,7 +127,7 @@ impl Nano {
         &self,
         seats: &mut Vec<NanoSeat>,
         i: usize,
-        temp: Seat<Option<Span>, View>,
+        temp: Seat<Option<Parcel>, View>,
         n: u64,
     )
         requires within { i < length seats.old.items }
@@ -141,7 +141,7 @@ impl Nano {
     }
 
     // The seat at `i` lends one of its parts.
-    fn lend_at(&self, seats: &mut Vec<NanoSeat>, i: usize) -> Seat<Option<Span>, View>
+    fn lend_at(&self, seats: &mut Vec<NanoSeat>, i: usize) -> Seat<Option<Parcel>, View>
         requires within { i < length seats.old.items }
         requires can { (d : NanoSeat) → let s = slice_index_or seats.old.items i d in BelongsTo self.now s × (2 ≤ s.seat.me.0.parts) }
         ensures lends { LendsPart self.now seats.old.items i seats.new.items result }

@@ -20,9 +20,9 @@
 //!                          |
 //!                      l: [ 0 ]
 //!
-//! its places      | j: span | k: span | l: span | m: - | .. | rest of the page |
-//!                      on the chain, at home         \
-//!                                                     in the hand of a seat, with its span
+//! its places      | j: parcel | k: parcel | l: parcel | m: - | .. | rest of the page |
+//!                      on the chain, at home               \
+//!                                                           in the hand of a seat, with its bytes
 //!
 //! state   0  unassigned: the whole page is in place 0, and the word is 0
 //!        17  being claimed by one seat, which cuts the page into slots

@@ -11,7 +11,7 @@ use crate::seat::NanoSeat;
 use crate::view::{Geometry, View};
 use atomic_table::{Seat, Table};
 use mz_base::PAGE;
-use mz_ground::Span;
+use mz_ground::{Estate, Parcel, Span};
 use std::alloc::{AllocError, Global};
 use std::mem;
 
@@ -26,7 +26,7 @@ fn zero_words(alloc: Global, n: usize) -> Result<Vec<u64>, AllocError>
     Ok(words)
 }
 
-fn add_nones(places: &mut Vec<Option<Span>>, n: usize) -> Result<(), AllocError>
+fn add_nones(places: &mut Vec<Option<Parcel>>, n: usize) -> Result<(), AllocError>
     ensures { IfOk result (λ _. places.new.items ≡ places.old.items ++ replicate n None) }
 {
     for _ in 0..n {
@@ -36,7 +36,7 @@ fn add_nones(places: &mut Vec<Option<Span>>, n: usize) -> Result<(), AllocError>
 }
 
 // The pages, each in the first place of its block.
-fn lay(alloc: Global, pages: Span, geometry: &Geometry) -> Result<Vec<Option<Span>>, AllocError>
+fn lay(alloc: Global, pages: Parcel, geometry: &Geometry) -> Result<Vec<Option<Parcel>>, AllocError>
     requires space { pages.space ≡ geometry.now.edge.space }
     requires first { pages.first ≡ geometry.now.edge.first }
     requires len { length pages.bytes ≡ geometry.now.blocks * 16384 }
@@ -58,7 +58,7 @@ impl Nano {
     fn make_seats(
         &self,
         alloc: Global,
-        seat: Seat<Option<Span>, View>,
+        seat: Seat<Option<Parcel>, View>,
         seats: u32,
     ) -> Result<Vec<NanoSeat>, AllocError>
         requires one { IsSeatOf self.now.table.shared.table_id self.now.table.shared.key seat }
@@ -95,7 +95,8 @@ impl Nano {
         ensures all { IfOk result (λ r. AreAllOf r.0 r.1.items) }
     {
         let blocks = span.len() / PAGE;
-        let (edge, pages) = span.split(0);
+        let (estate, mut edge) = Estate::of(span);
+        let pages = edge.cut_off(0);
         let geometry = Geometry {
             blocks,
             most_gen,
@@ -118,6 +119,7 @@ impl Nano {
                     blocks,
                     most_gen,
                     edge,
+                    estate,
                 };
                 let list = nano.make_seats(alloc, seat, seats)?;
                 Ok((nano, list))

@@ -15,7 +15,8 @@ use crate::seat::{Miss, NanoSeat};
 use crate::slot::SlotSpan;
 use crate::view::{Held, View};
 use atomic_table::Seat;
-use mz_ground::Span;
+use mz_base::PAGE;
+use mz_ground::Parcel;
 use mz_nanoword::NanoWord;
 use std::mem;
 
@@ -65,9 +66,19 @@ fn slot_count(class: u64) -> u64
     1024 / class
 }
 
+// How far the slot is behind the first page.
+fn slot_at(block: u64, slot: u64, class: u64) -> u64
+    requires block { block < 2 ^ 50 }
+    requires class { class ≤ 16 }
+    requires few { 16 * class * slot < 16384 }
+    ensures { result ≡ block * 16384 + 16 * class * slot }
+{
+    block * PAGE + 16 * class * slot
+}
+
 impl Nano {
     // Loads the blocks' words up to the first that is usable.
-    pub(crate) fn scan(&self, seat: &mut Seat<Option<Span>, View>, class: u64) -> Candidate
+    pub(crate) fn scan(&self, seat: &mut Seat<Option<Parcel>, View>, class: u64) -> Candidate
         requires table { seat.old.table_id ≡ self.now.table.shared.table_id }
         requires geometry { seat.old.me.0.geometry ≡ self.now.table.shared.key }
         requires live { seat.old.me.0.live ≡ true }
@@ -96,12 +107,12 @@ impl Nano {
     // Tries to take the first slot of the word `old`, whose link is known.
     pub(crate) fn take_first(
         &self,
-        seat: &mut Seat<Option<Span>, View>,
+        seat: &mut Seat<Option<Parcel>, View>,
         b: u64,
         old: u64,
         word: NanoWord,
         link: u64,
-    ) -> Result<Span, u64>
+    ) -> Result<Parcel, u64>
         requires table { seat.old.table_id ≡ self.now.table.shared.table_id }
         requires geometry { seat.old.me.0.geometry ≡ self.now.table.shared.key }
         requires exists { b < self.now.blocks }
@@ -131,27 +142,27 @@ impl Nano {
             return Err(found);
         }
         let slot = word.next - 1;
-        let span = match self
+        let parcel = match self
             .table
             .shared
             .exchange(seat, (b * PLACES + slot) as usize, None)
         {
-            Some(span) => span,
+            Some(parcel) => parcel,
             None => unreachable!(),
         };
         self.give_place(seat, b);
-        Ok(span)
+        Ok(parcel)
     }
 
     // Cuts a claimed page into its slots, and answers the rest of it.
     pub(crate) fn cut_all(
         &self,
-        seat: &mut Seat<Option<Span>, View>,
+        seat: &mut Seat<Option<Parcel>, View>,
         b: u64,
         class: u64,
         n: u64,
-        page: Span,
-    ) -> Span
+        page: Parcel,
+    ) -> Parcel
         requires table { seat.old.table_id ≡ self.now.table.shared.table_id }
         requires geometry { seat.old.me.0.geometry ≡ self.now.table.shared.key }
         requires exists { b < self.now.blocks }
@@ -183,10 +194,10 @@ impl Nano {
     // Claims the block `b`, makes it ready and takes its first slot.
     pub(crate) fn claim(
         &self,
-        seat: &mut Seat<Option<Span>, View>,
+        seat: &mut Seat<Option<Parcel>, View>,
         b: u64,
         class: u64,
-    ) -> Result<Span, (u64, u64)>
+    ) -> Result<Parcel, (u64, u64)>
         requires table { seat.old.table_id ≡ self.now.table.shared.table_id }
         requires geometry { seat.old.me.0.geometry ≡ self.now.table.shared.key }
         requires exists { b < self.now.blocks }
@@ -232,27 +243,30 @@ impl Nano {
         let word = ready.pack();
         self.make_ready(seat, b, word);
         match self.take_first(seat, b, word, ready, 2) {
-            Ok(span) => Ok(span),
+            Ok(parcel) => Ok(parcel),
             Err(found) => Err((word, found)),
         }
     }
 
-    // A slot, with the first address of the nano's span.
-    fn slot_span(&self, block: u64, slot: u64, class: u64, span: Span) -> SlotSpan
+    // Lays a slot's bytes. It has the first address of the nano's span with it.
+    pub(crate) fn slot_span(&self, block: u64, slot: u64, class: u64, parcel: Parcel) -> SlotSpan
         requires class { (1 ≤ class) × (class ≤ 16) }
         requires slot { slot < slots class }
-        requires piece { IsPiece self.now.table.shared.key block (16 * class * slot) (16 * class) span }
+        requires exists { block < self.now.blocks }
+        requires piece { IsPiece self.now.table.shared.key block (16 * class * slot) (16 * class) parcel }
         ensures which { (result.block ≡ block) × (result.slot ≡ slot) × (result.class ≡ class) }
         ensures base { result.base ≡ first_of self.now }
-        ensures span { result.span ≡ span }
+        ensures span { result.span ≡ parcel }
     {
-        SlotSpan::new(block, slot, class, self.edge.first(), span)
+        let at = slot_at(block, slot, class);
+        let strip = self.estate.lay(parcel, at, 16 * class);
+        SlotSpan::new(block, slot, class, self.estate.first(), strip)
     }
 
     // A pop by the seat within.
     pub(crate) fn pop_once(
         &self,
-        seat: &mut Seat<Option<Span>, View>,
+        seat: &mut Seat<Option<Parcel>, View>,
         class: u64,
     ) -> Result<SlotSpan, Miss>
         requires table { seat.old.table_id ≡ self.now.table.shared.table_id }
@@ -267,7 +281,7 @@ impl Nano {
         match self.scan(seat, class) {
             Candidate::Nothing => Err(Miss::Exhausted),
             Candidate::Unassigned(block) => match self.claim(seat, block, class) {
-                Ok(span) => Ok(self.slot_span(block, 0, class, span)),
+                Ok(parcel) => Ok(self.slot_span(block, 0, class, parcel)),
                 Err((expected, found)) => Err(Miss::Contended {
                     block,
                     expected,
@@ -278,7 +292,7 @@ impl Nano {
                 let slot = word.next - 1;
                 let link = self.load_link(seat, block, slot);
                 match self.take_first(seat, block, expected, word, link) {
-                    Ok(span) => Ok(self.slot_span(block, slot, class, span)),
+                    Ok(parcel) => Ok(self.slot_span(block, slot, class, parcel)),
                     Err(found) => Err(Miss::Contended {
                         block,
                         expected,

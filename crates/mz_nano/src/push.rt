@@ -10,7 +10,7 @@ use crate::seat::{Contended, NanoSeat};
 use crate::slot::SlotSpan;
 use crate::view::View;
 use atomic_table::Seat;
-use mz_ground::Span;
+use mz_ground::Parcel;
 use mz_nanoword::NanoWord;
 
 // The generation after a push, which leaves the last one as it is.
@@ -32,22 +32,22 @@ impl Nano {
     // A push by the seat within.
     fn push_once(
         &self,
-        seat: &mut Seat<Option<Span>, View>,
+        seat: &mut Seat<Option<Parcel>, View>,
         block: u64,
         slot: u64,
         class: u64,
-        span: Span,
-    ) -> Result<(), (Span, u64, u64)>
+        parcel: Parcel,
+    ) -> Result<(), (Parcel, u64, u64)>
         requires table { seat.old.table_id ≡ self.now.table.shared.table_id }
         requires geometry { seat.old.me.0.geometry ≡ self.now.table.shared.key }
         requires live { seat.old.me.0.live ≡ true }
         requires at_rest { (seat.old.me.0.vacant ≡ []) × (seat.old.me.0.claim ≡ []) × (seat.old.me.1 ≡ []) }
         requires within { (block < self.now.blocks) × (slot < 1024) }
         requires mine { In (held block slot class) seat.old.me.0.hand }
-        requires piece { IsPiece seat.old.me.0.geometry block (16 * class * slot) (16 * class) span }
+        requires piece { IsPiece seat.old.me.0.geometry block (16 * class * slot) (16 * class) parcel }
         ensures table { seat.new.table_id ≡ seat.old.table_id }
         ensures ok { OnOk result (Pushed seat.old.me block slot class seat.new.me) }
-        ensures err { IfErr result (λ e. (e.0 ≡ span) × PushLost seat.old.me block e.1 e.2 seat.new.me) }
+        ensures err { IfErr result (λ e. (e.0 ≡ parcel) × PushLost seat.old.me block e.1 e.2 seat.new.me) }
         ensures ends { EndsAtRest seat.old.me seat.new.me }
     {
         let (_blocks, _most) = (self.blocks, self.most_gen);
@@ -57,7 +57,7 @@ impl Nano {
         };
         self.store_link(seat, block, slot, word.next);
         let place = (block * PLACES + slot) as usize;
-        let empty = self.table.shared.exchange(seat, place, Some(span));
+        let empty = self.table.shared.exchange(seat, place, Some(parcel));
         let None = empty else { unreachable!() };
         let new = NanoWord {
             next: slot + 1,
@@ -69,12 +69,12 @@ impl Nano {
         if found == old {
             return Ok(());
         }
-        let span = match self.table.shared.exchange(seat, place, None) {
-            Some(span) => span,
+        let parcel = match self.table.shared.exchange(seat, place, None) {
+            Some(parcel) => parcel,
             None => unreachable!(),
         };
         self.give_place(seat, block);
-        Err((span, old, found))
+        Err((parcel, old, found))
     }
 
     /// Pushes a slot of the seat's hand to the front of its block's chain: by one load of the block's
@@ -92,15 +92,15 @@ impl Nano {
         ensures ok { OnOk result (Pushed seat.old.seat.me s.block s.slot s.class seat.new.seat.me) }
         ensures err { IfErr result (λ e. (e.slot ≡ s) × PushLost seat.old.seat.me s.block e.expected e.found seat.new.seat.me) }
     {
-        let (block, slot, class, base) = (s.block(), s.slot(), s.class(), s.base());
-        let span = s.into_span();
-        match self.push_once(&mut seat.seat, block, slot, class, span) {
+        let (block, slot, class) = (s.block(), s.slot(), s.class());
+        let parcel = s.into_parcel();
+        match self.push_once(&mut seat.seat, block, slot, class, parcel) {
             Ok(()) => {
                 seat.held -= 1;
                 Ok(())
             }
-            Err((span, expected, found)) => Err(Contended {
-                slot: SlotSpan::new(block, slot, class, base, span),
+            Err((parcel, expected, found)) => Err(Contended {
+                slot: self.slot_span(block, slot, class, parcel),
                 expected,
                 found,
             }),

@@ -9,13 +9,13 @@ ghost use Rattle.mz_nano.specs.StepEffects.{LoadsBlock, GivesPlace, LoadsLink, P
 
 use crate::view::{Geometry, View};
 use atomic_table::{Join, Play, Split, TableRule};
-use mz_ground::Span;
+use mz_ground::Parcel;
 use std::marker::{Brand, PhantomData};
 
 /// The rule that holds between any two steps.
 pub struct NanoRule;
 
-impl TableRule<Option<Span>, View, Geometry> for NanoRule {
+impl TableRule<Option<Parcel>, View, Geometry> for NanoRule {
     ghost holds = { Rule };
 
     ghost first = { first_view };
@@ -24,63 +24,63 @@ impl TableRule<Option<Span>, View, Geometry> for NanoRule {
 /// `load-block`: a load of a block's word.
 pub struct LoadBlock;
 
-impl Play<Option<Span>, View> for LoadBlock {
+impl Play<Option<Parcel>, View> for LoadBlock {
     ghost then = { LoadsBlock };
 }
 
-/// `load-block`, which gives back the place of a slot whose span went to its hand.
+/// `load-block`, which gives back the place of a slot that went to its hand.
 pub struct GivePlace;
 
-impl Play<Option<Span>, View> for GivePlace {
+impl Play<Option<Parcel>, View> for GivePlace {
     ghost then = { GivesPlace };
 }
 
 /// `load-link`: a load of the link of the first slot of the word that was loaded last.
 pub struct LoadLink;
 
-impl Play<Option<Span>, View> for LoadLink {
+impl Play<Option<Parcel>, View> for LoadLink {
     ghost then = { LoadsLink };
 }
 
 /// `pop-exchange`, which takes the place of the slot.
 pub struct PopExchange;
 
-impl Play<Option<Span>, View> for PopExchange {
+impl Play<Option<Parcel>, View> for PopExchange {
     ghost then = { PopsSlot };
 }
 
 /// `store-link` of a slot in hand, whose place is taken.
 pub struct StoreLink;
 
-impl Play<Option<Span>, View> for StoreLink {
+impl Play<Option<Parcel>, View> for StoreLink {
     ghost then = { StoresLink };
 }
 
 /// `push-exchange`, which gives the place of the slot back.
 pub struct PushExchange;
 
-impl Play<Option<Span>, View> for PushExchange {
+impl Play<Option<Parcel>, View> for PushExchange {
     ghost then = { PushesSlot };
 }
 
 /// `claim`, which takes the block's page.
 pub struct ClaimExchange;
 
-impl Play<Option<Span>, View> for ClaimExchange {
+impl Play<Option<Parcel>, View> for ClaimExchange {
     ghost then = { ClaimsBlock };
 }
 
 /// `store-link` of a slot of a claimed block, whose place is given and the next one taken.
 pub struct StoreFreshLink;
 
-impl Play<Option<Span>, View> for StoreFreshLink {
+impl Play<Option<Parcel>, View> for StoreFreshLink {
     ghost then = { CutsSlot };
 }
 
 /// `make-ready`, which gives the place of the rest of the page.
 pub struct MakeReady;
 
-impl Play<Option<Span>, View> for MakeReady {
+impl Play<Option<Parcel>, View> for MakeReady {
     ghost then = { MakesReady };
 }
 

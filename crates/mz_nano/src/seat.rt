@@ -6,7 +6,7 @@ ghost use Rattle.mz_nano.specs.CallEffects.{IsAtRest, is_at_rest-prop, once-prop
 use crate::slot::SlotSpan;
 use crate::view::{Held, View};
 use atomic_table::Seat;
-use mz_ground::Span;
+use mz_ground::Parcel;
 
 /// Why a pop gave no slot.
 #[derive(Debug, Drop)]
@@ -43,7 +43,7 @@ pub struct NanoSeat {
     pub(crate) popped: Option<Held>,
     // How many slots are in its hand.
     pub(crate) held: u64,
-    pub(crate) seat: Seat<Option<Span>, View>,
+    pub(crate) seat: Seat<Option<Parcel>, View>,
     ghost count: { held ≡ length seat.me.0.hand },
     ghost at_rest: { IsAtRest seat.me } by { is_at_rest-prop seat.me },
     ghost once: { Once seat.me.0.hand } by { once-prop seat.me.0.hand },
@@ -51,7 +51,7 @@ pub struct NanoSeat {
 
 impl NanoSeat {
     // A seat with an empty hand that made no call.
-    pub(crate) fn new(number: u32, seat: Seat<Option<Span>, View>) -> NanoSeat
+    pub(crate) fn new(number: u32, seat: Seat<Option<Parcel>, View>) -> NanoSeat
         requires empty { length seat.me.0.hand ≡ 0 }
         requires at_rest { IsAtRest seat.me }
         ensures number { result.number ≡ number }
@@ -104,7 +104,7 @@ impl NanoSeat {
         self.popped
     }
 
-    pub(crate) fn into_seat(self) -> Seat<Option<Span>, View>
+    pub(crate) fn into_seat(self) -> Seat<Option<Parcel>, View>
         ensures seat { result ≡ self.seat }
         ensures at_rest { IsAtRest result.me }
     {

@@ -4,7 +4,7 @@ ghost use Rattle.std.specs.Borrow.{Lends, Array, sem, u8};
 ghost use Rattle.mz_nano.specs.SlotViews.{IsPlaced, with_slot_bytes};
 ghost use Rattle.mz_nano.specs.contracts.slot.SlotSpan.{the_row};
 
-use mz_ground::Span;
+use mz_ground::{Parcel, Strip};
 use std::marker::Model;
 
 /// A slot with its bytes, which nothing else can reach. Contracts see its block, its number there, its
@@ -16,7 +16,7 @@ pub struct SlotSpan {
     slot: u64,
     class: u64,
     base: u64,
-    span: Span,
+    span: Strip,
 }
 
 impl Model for SlotSpan {
@@ -32,7 +32,7 @@ impl Model for SlotSpan {
 }
 
 impl SlotSpan {
-    pub(crate) fn new(block: u64, slot: u64, class: u64, base: u64, span: Span) -> SlotSpan
+    pub(crate) fn new(block: u64, slot: u64, class: u64, base: u64, span: Strip) -> SlotSpan
         requires { IsPlaced (record { block = block; slot = slot; class = class; base = base; span = span }) }
         ensures { result ≡ record { block = block; slot = slot; class = class; base = base; span = span } }
     {
@@ -45,8 +45,8 @@ impl SlotSpan {
         }
     }
 
-    pub(crate) fn into_span(self) -> Span
-        ensures span { result ≡ self.span }
+    pub(crate) fn into_parcel(self) -> Parcel
+        ensures parcel { result ≡ self.span }
         ensures placed { IsPlaced self }
     {
         let SlotSpan {
@@ -56,13 +56,7 @@ impl SlotSpan {
             base: _,
             span,
         } = self;
-        span
-    }
-
-    pub(crate) fn base(&self) -> u64
-        ensures { result ≡ self.now.base }
-    {
-        self.base
+        span.into_parcel()
     }
 
     /// The number of its block, which is that of its page in the nano's span.

@@ -16,11 +16,11 @@ use crate::rule::{
 };
 use crate::view::View;
 use atomic_table::Seat;
-use mz_ground::Span;
+use mz_ground::Parcel;
 
 impl Nano {
     // Loads the word of the block b.
-    pub(crate) fn load_block(&self, seat: &mut Seat<Option<Span>, View>, b: u64) -> u64
+    pub(crate) fn load_block(&self, seat: &mut Seat<Option<Parcel>, View>, b: u64) -> u64
         requires table { seat.old.table_id ≡ self.now.table.shared.table_id }
         requires geometry { seat.old.me.0.geometry ≡ self.now.table.shared.key }
         requires exists { b < self.now.blocks }
@@ -38,7 +38,7 @@ impl Nano {
     }
 
     // The same, and gives back the place that the pop or a lost push took.
-    pub(crate) fn give_place(&self, seat: &mut Seat<Option<Span>, View>, b: u64) -> u64
+    pub(crate) fn give_place(&self, seat: &mut Seat<Option<Parcel>, View>, b: u64) -> u64
         requires table { seat.old.table_id ≡ self.now.table.shared.table_id }
         requires exists { b < self.now.blocks }
         requires live { seat.old.me.0.live ≡ true }
@@ -52,7 +52,7 @@ impl Nano {
     }
 
     // Loads the link of the first slot of the word that was loaded last.
-    pub(crate) fn load_link(&self, seat: &mut Seat<Option<Span>, View>, b: u64, slot: u64) -> u64
+    pub(crate) fn load_link(&self, seat: &mut Seat<Option<Parcel>, View>, b: u64, slot: u64) -> u64
         requires table { seat.old.table_id ≡ self.now.table.shared.table_id }
         requires geometry { seat.old.me.0.geometry ≡ self.now.table.shared.key }
         requires exists { b < self.now.blocks }
@@ -73,7 +73,7 @@ impl Nano {
     // The exchange of a pop.
     pub(crate) fn pop_exchange(
         &self,
-        seat: &mut Seat<Option<Span>, View>,
+        seat: &mut Seat<Option<Parcel>, View>,
         b: u64,
         old: u64,
         new: u64,
@@ -94,7 +94,7 @@ impl Nano {
     // Stores the link of a slot in hand, and takes its place.
     pub(crate) fn store_link(
         &self,
-        seat: &mut Seat<Option<Span>, View>,
+        seat: &mut Seat<Option<Parcel>, View>,
         b: u64,
         slot: u64,
         next: u64,
@@ -118,7 +118,7 @@ impl Nano {
     // The exchange of a push.
     pub(crate) fn push_exchange(
         &self,
-        seat: &mut Seat<Option<Span>, View>,
+        seat: &mut Seat<Option<Parcel>, View>,
         b: u64,
         old: u64,
         new: u64,
@@ -138,7 +138,7 @@ impl Nano {
     // The exchange that claims a block.
     pub(crate) fn claim_exchange(
         &self,
-        seat: &mut Seat<Option<Span>, View>,
+        seat: &mut Seat<Option<Parcel>, View>,
         b: u64,
         old: u64,
         new: u64,
@@ -155,8 +155,8 @@ impl Nano {
             .compare_exchange::<ClaimExchange>(seat, b as usize, old, new)
     }
 
-    // Stores the link of the slot k of a claimed block, gives its span and takes the next place.
-    pub(crate) fn cut(&self, seat: &mut Seat<Option<Span>, View>, b: u64, k: u64, next: u64)
+    // Stores the link of the slot k of a claimed block, gives its parcel and takes the next place.
+    pub(crate) fn cut(&self, seat: &mut Seat<Option<Parcel>, View>, b: u64, k: u64, next: u64)
         requires table { seat.old.table_id ≡ self.now.table.shared.table_id }
         requires geometry { seat.old.me.0.geometry ≡ self.now.table.shared.key }
         requires exists { (b < self.now.blocks) × (k < 1024) }
@@ -171,7 +171,7 @@ impl Nano {
     }
 
     // Stores the ready word of a claimed block.
-    pub(crate) fn make_ready(&self, seat: &mut Seat<Option<Span>, View>, b: u64, word: u64)
+    pub(crate) fn make_ready(&self, seat: &mut Seat<Option<Parcel>, View>, b: u64, word: u64)
         requires table { seat.old.table_id ≡ self.now.table.shared.table_id }
         requires exists { b < self.now.blocks }
         requires can { (c : ℕ) × CanMakeReady seat.old.me b c word }

@@ -1,17 +1,17 @@
 //! What a seat knows. No value of these types is made but a `Geometry` and a `Held`: the others are
 //! for proofs.
 
-use mz_ground::Span;
+use mz_ground::Parcel;
 use std::collections::LinkedList;
 
 /// What a nano was opened with: how many blocks, the generation at which they retire, how many
-/// seats, and an empty span where the first block begins.
+/// seats, and a parcel of no bytes where the first block begins.
 #[derive(Drop)]
 pub struct Geometry {
     pub blocks: u64,
     pub most_gen: u64,
     pub seats: u32,
-    pub edge: Span,
+    pub edge: Parcel,
 }
 
 /// A slot by its block, its number there and its class.

@@ -12,3 +12,4 @@ mod Answered
 mod KeeperLemmas
 mod StockLemmas
 mod OpeningLemmas
+mod Asked

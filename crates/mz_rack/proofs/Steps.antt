@@ -273,6 +273,7 @@ rest_grows L s xs n t h u g r = subst (λ (x : Account). Grows s xs n x) (sym r)
   adds = record {
     more = g.adds.more;
     same = record {
+      name = g.adds.same.name;
       profile = g.adds.same.profile;
       caller = g.adds.same.caller;
       site = g.adds.same.site;

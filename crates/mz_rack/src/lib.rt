@@ -29,6 +29,8 @@ mod region;
 mod serve;
 mod shelf;
 mod stock;
+#[cfg(test)]
+mod tests;
 mod way;
 
 pub use keeper::Keeper;

@@ -1,15 +1,15 @@
 -- The live blocks of a state by address, and its statistics. The statistics are libmalloc's.
-use Rattle.std.specs.Prelude.{ℕ, ◌+◌, ◌*◌, List, [], ◌∷◌, length, sum_by}
+use Rattle.std.specs.Prelude.{ℕ, ◌+◌, ◌*◌, List, length, sum_by}
 use Rattle.mz_base.specs.declared.profile.Profile.{Profile}
 use Rattle.mz_base.specs.declared.range.TheConstants.{PAGE}
 use Rattle.mz_base.specs.declared.range.Range.{Range}
 use Rattle.mz_base.specs.declared.range.Range.TheVariants as range
 use Rattle.mz_base.specs.Space.{Block}
-use Rattle.mz_base.specs.Lists.{insert_by}
 use Rattle.mz_events.specs.declared.place.Place.{Place}
 use Rattle.mz_events.specs.declared.place.Place.TheVariants.{Pages, Tiny, TinyDepot, Small, SmallDepot, Large, Nano}
 use Rattle.mz_events.specs.Places.{Spot, spot_of}
 use Rattle.mz_events.specs.State.{State, live_blocks, live_size, kept_at}
+use Rattle.mz_events.specs.Separation.{by_address}
 
 -- the range of a place's blocks; none live in the free pages, of which this says nothing
 abbrev pub range_of : Place → Range
@@ -21,12 +21,7 @@ range_of (SmallDepot z) = range.Small
 range_of (Large z) = range.Large
 range_of Nano = range.Nano
 
--- in ascending order of addresses
-unfoldable pub by_address : List (Spot × Block) → List (Spot × Block)
-by_address [] = []
-by_address (x ∷ xs) = insert_by (λ y. y.1.first) x (by_address xs)
-
--- the live blocks of a state, each with its spot
+-- the live blocks of a state in ascending order of addresses, each with its spot
 abbrev pub blocks_by_address : State → List (Spot × Block)
 blocks_by_address s = by_address (live_blocks s)
 

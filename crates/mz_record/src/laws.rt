@@ -1,6 +1,6 @@
 //! What holds of these definitions: each function's contract is a law.
 
-ghost use Rattle.std.specs.Prelude.{◌≡◌, ◌+◌, ◌≤◌, ℕ, true, List, [], map, length, take, not, Option, Some, IsTrue, Contains};
+ghost use Rattle.std.specs.Prelude.{◌≡◌, ◌+◌, ◌≤◌, ℕ, true, List, [], ◌++◌, map, length, take, not, Option, Some, IsTrue, Contains};
 ghost use Rattle.std.specs.List.{list_all};
 ghost use Rattle.mz_base.specs.declared.profile.Profile.{Profile};
 ghost use Rattle.mz_base.specs.Space.{Block};
@@ -9,9 +9,13 @@ ghost use Rattle.mz_events.specs.State.{opening};
 ghost use Rattle.mz_events.specs.History.{AreLawful, after_all};
 ghost use Rattle.mz_record.specs.Moments.{state_before, state_at};
 ghost use Rattle.mz_record.specs.Bytes.{Bytes, fresh, cleared, filled, linked, kept_in_place, kept_in_move, is_shown_as};
-ghost use Rattle.mz_record.specs.Served.{Request, IsServed, IsUndisturbed, is_dry, first_made};
+ghost use Rattle.mz_events.specs.Hands.{hand_through};
+ghost use Rattle.mz_base.specs.Lists.{drop_block};
+ghost use Rattle.std.specs.Option.{option_to_list};
+ghost use Rattle.mz_record.specs.Served.{Request, IsServed, Serves, IsUndisturbed, is_dry, first_made};
+ghost use Rattle.mz_record.specs.Dropped.{IsDropped};
 
-use mz_events::laws::entries::tickets_are_indices;
+use mz_events::laws::entries::{lawful_entries_split, tickets_are_indices};
 use mz_events::laws::holding::{what_an_event_leaves, what_an_event_reads};
 
 /// As many bytes are known or unknown as the block has.
@@ -56,4 +60,32 @@ pub fn moments()
     ensures at { (p : Profile) (h : List entry) (n : ℕ) → AreLawful p opening h → state_at p h n ≡ after_all p opening (take n h) }
 {
     tickets_are_indices();
+}
+
+/// The entries of a request change their caller's hand in one thing: the block that is served stands behind the others, and one that is
+/// dropped is there no more. No flush and no duty changes a hand.
+pub fn hands_after_requests()
+    ensures served { (p : Profile) (h : List entry) (q : Request) (es : List entry) (got : Option Block) (hand : List Block) →
+        IsServed p h q es got → hand_through hand es ≡ hand ++ option_to_list got }
+    ensures dropped { (p : Profile) (h : List entry) (b : Block) (es : List entry) (hand : List Block) →
+        IsDropped p h b es → hand_through hand es ≡ drop_block b hand }
+{
+    what_an_event_leaves();
+    what_an_event_reads();
+}
+
+/// What serves a request or drops a block in a history does so where the history goes on, and the states in it are the same.
+pub fn later_entries()
+    ensures state { (p : Profile) (h later : List entry) (n : ℕ) →
+        AreLawful p opening (h ++ later) → n ≤ length h → state_at p (h ++ later) n ≡ state_at p h n }
+    ensures served { (p : Profile) (h later : List entry) (q : Request) (es : List entry) (got : Option Block) →
+        AreLawful p opening (h ++ later) → ((e : entry) → Contains es e → Contains h e) →
+        Serves p h q es got → Serves p (h ++ later) q es got }
+    ensures dropped { (p : Profile) (h later : List entry) (b : Block) (es : List entry) →
+        AreLawful p opening (h ++ later) → ((e : entry) → Contains es e → Contains h e) →
+        IsDropped p h b es → IsDropped p (h ++ later) b es }
+{
+    moments();
+    tickets_are_indices();
+    lawful_entries_split();
 }

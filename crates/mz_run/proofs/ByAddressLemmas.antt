@@ -5,7 +5,7 @@ use Rattle.std.proofs.lemmas.Bool.{cond-true, lt-ltb}
 use Rattle.mz_base.specs.Space.{Block, block_end}
 use Rattle.mz_base.specs.Lists.{insert_by}
 use Rattle.mz_events.specs.Places.{Spot}
-use Rattle.mz_record.specs.Listing.{by_address}
+use Rattle.mz_events.specs.Separation.{by_address}
 use Rattle.mz_run.specs.Blocks.{IsTiled}
 
 -- the blocks of a spot

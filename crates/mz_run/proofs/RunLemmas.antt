@@ -23,7 +23,8 @@ use Rattle.mz_trace.specs.declared.trace.Trace.{Trace}
 use Rattle.mz_trace.specs.declared.tail.Figures.{Figures}
 use Rattle.mz_run.specs.Blocks.{region_end}
 use Rattle.mz_run.specs.Built.{IsBuilt}
-use Rattle.mz_record.specs.Listing.{by_address, size_allocated}
+use Rattle.mz_record.specs.Listing.{size_allocated}
+use Rattle.mz_events.specs.Separation.{by_address}
 use Rattle.mz_fit.specs.Records.{entry_by, call_record, call_records, entries_of_records, entries_of_round, entries_of}
 use Rattle.mz_fit.specs.Standing.{Standing, default_zone, first_standing, zone_name, delivered}
 use Rattle.mz_fit.specs.After.{after_record}

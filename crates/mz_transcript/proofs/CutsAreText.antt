@@ -1,21 +1,18 @@
 -- Texts, and the lines into which they are cut.
-use Rattle.std.proofs.Common.{◌≡◌, ℕ, Bool, true, false, List, [], ◌∷◌, ◌++◌, eqb, arith, refl, ap, ◌∙◌, inl, inr}
-use Rattle.std.specs.Prelude.{not, ◌&&◌}
-use Rattle.std.specs.List.{list_all, join_with_byte}
-use Rattle.std.proofs.lemmas.Bool.Decides.{nat_tests}
-use Rattle.std.proofs.lemmas.Bool.{cases_Bool, eqb-true, and_parts, and_from, not-true}
-use Rattle.std.proofs.lemmas.List.Splits.{join_with_byte-slice_split}
-use Rattle.mz_words.specs.Lines.{Cut, longer, cuts, words_of, line_text, is_visible, are_visible}
+use Rattle.std.proofs.Common.{◌≡◌, ℕ, Bool, true, List, [], ◌∷◌, ◌++◌, map, length, eqb, leb, arith, refl, sym, ap, ◌∙◌, inl, inr}
+use Rattle.std.specs.Prelude.{◌&&◌, count_by}
+use Rattle.std.specs.List.{list_all, flat_map, join_with_byte}
+use Rattle.std.proofs.lemmas.Bool.{cases_Bool, eqb-true, and_parts, leb-true, le-leb}
+use Rattle.std.proofs.lemmas.List.Splits.{join_with_byte-slice_split, length-slice_split}
+use Rattle.mz_words.specs.Lines.{Cut, longer, cuts, words_of, is_short, line_of, line_text, are_visible}
+use Rattle.mz_transcript.proofs.TextLaws.{TextLaws}
+use Rattle.mz_transcript.proofs.RunLinesAreWords.{are_plain}
 
--- a line with its line feed
-abbrev pub with_feed : Cut → List ℕ
-with_feed l = l.text ++ 10 ∷ []
-
-abbrev pub uncut : List Cut → List ℕ
+abbrev uncut : List Cut → List ℕ
 uncut [] = []
-uncut (l ∷ ls) = with_feed l ++ uncut ls
+uncut (l ∷ ls) = (l.text ++ 10 ∷ []) ++ uncut ls
 
-abbrev pub all_ended : List Cut → Bool
+abbrev all_ended : List Cut → Bool
 all_ended [] = true
 all_ended (l ∷ ls) = l.ended && all_ended ls
 
@@ -23,8 +20,7 @@ longer_uncut : (b : ℕ) (bs : List ℕ) (ls : List Cut) → all_ended (longer b
 longer_uncut b bs [] e h = absurd cc
 longer_uncut b bs (l ∷ ls) e h = ap (λ (x : List ℕ). b ∷ x) (h e)
 
--- bytes whose lines all end with a line feed are those lines
-pub uncut-cuts : (bs : List ℕ) → all_ended (cuts bs) ≡ true → bs ≡ uncut (cuts bs)
+uncut-cuts : (bs : List ℕ) → all_ended (cuts bs) ≡ true → bs ≡ uncut (cuts bs)
 uncut-cuts [] e = refl
 uncut-cuts (b ∷ bs) e =
     elim (cases_Bool (eqb b 10)) [
@@ -32,38 +28,36 @@ uncut-cuts (b ∷ bs) e =
       | inr other ↦ rw other (longer_uncut b bs (cuts bs) (rw other at e) (λ h. uncut-cuts bs h))
     ]
 
--- a line is its words, with a space between each two
-pub line_text-words_of : (text : List ℕ) → line_text (words_of text) ≡ text ++ 10 ∷ []
-line_text-words_of text = ap (λ (x : List ℕ). x ++ 10 ∷ []) (join_with_byte-slice_split 32 text)
+lines_ended : (lines : List (List (List ℕ))) → all_ended (map line_of lines) ≡ true
+lines_ended [] = refl
+lines_ended (ws ∷ lines) = lines_ended lines
 
--- lines without a line feed in them
-no_feed : (b : ℕ) → is_visible b ≡ true → eqb b 10 ≡ false
-no_feed b h = grind (arith, nat_tests)
+lines_uncut : (lines : List (List (List ℕ))) → uncut (map line_of lines) ≡ flat_map line_text lines
+lines_uncut [] = refl
+lines_uncut (ws ∷ lines) = ap (λ (x : List ℕ). line_text ws ++ x) (lines_uncut lines)
 
-pub cut_off : (t rest : List ℕ) → list_all (λ b. not (eqb b 10)) t ≡ true → cuts (t ++ 10 ∷ rest) ≡ record { text = t; ended = true } ∷ cuts rest
-cut_off [] rest h = refl
-cut_off (b ∷ bs) rest h =
-    let parts = and_parts (not (eqb b 10)) (list_all (λ x. not (eqb x 10)) bs) h in
-    rw (not-true (eqb b 10) parts.0) (ap (longer b) (cut_off bs rest parts.1))
+-- bytes that are cut into lines of words are those lines
+pub lines_are_text : (bs : List ℕ) (lines : List (List (List ℕ))) → cuts bs ≡ map line_of lines → bs ≡ flat_map line_text lines
+lines_are_text bs lines e = uncut-cuts bs (ap all_ended e ∙ lines_ended lines) ∙ ap uncut e ∙ lines_uncut lines
 
-abbrev pub no_feeds : List ℕ → Bool
-no_feeds t = list_all (λ b. not (eqb b 10)) t
+-- and lines of plain words are cut again
+pub text_is_cut : TextLaws → (lines : List (List (List ℕ))) → list_all are_plain lines ≡ true → cuts (flat_map line_text lines) ≡ map line_of lines
+text_is_cut laws [] h = refl
+text_is_cut laws (ws ∷ lines) h =
+    let p = and_parts (are_plain ws) (list_all are_plain lines) h in
+    laws.words.lines.cut ws (flat_map line_text lines) (and_parts (are_visible ws) (leb (length ws) 12) p.0).0 ∙ ap (λ (x : List Cut). line_of ws ∷ x) (text_is_cut laws lines p.1)
 
-word_no_feeds : (w : List ℕ) → list_all is_visible w ≡ true → no_feeds w ≡ true
-word_no_feeds [] h = refl
-word_no_feeds (b ∷ bs) h =
-    let parts = and_parts (is_visible b) (list_all is_visible bs) h in
-    rw (no_feed b parts.0) (word_no_feeds bs parts.1)
+-- a line that is ended is one of its words
+pub ended_is_line : (l : Cut) → l.ended ≡ true → l ≡ line_of (words_of l.text)
+ended_is_line l e =
+    ap (λ (t : Bool). let x : Cut = record { text = l.text; ended = t } in x) e
+    ∙ ap (λ (t : List ℕ). let x : Cut = record { text = t; ended = true } in x) (sym (join_with_byte-slice_split 32 l.text))
 
-no_feeds-append : (s t : List ℕ) → no_feeds s ≡ true → no_feeds t ≡ true → no_feeds (s ++ t) ≡ true
-no_feeds-append [] t h k = k
-no_feeds-append (b ∷ bs) t h k =
-    let parts = and_parts (not (eqb b 10)) (no_feeds bs) h in
-    and_from _ _ parts.0 (no_feeds-append bs t parts.1 k)
-
-pub line_no_feeds : (ws : List (List ℕ)) → are_visible ws ≡ true → no_feeds (join_with_byte 32 ws) ≡ true
-line_no_feeds [] h = refl
-line_no_feeds (w ∷ []) h = word_no_feeds w (and_parts (list_all is_visible w) true h).0
-line_no_feeds (w ∷ v ∷ ws) h =
-    let parts = and_parts (list_all is_visible w) (are_visible (v ∷ ws)) h in
-    no_feeds-append w (32 ∷ join_with_byte 32 (v ∷ ws)) (word_no_feeds w parts.0) (line_no_feeds (v ∷ ws) parts.1)
+-- and a line of plain words is short
+pub plain_is_short : TextLaws → (w : List ℕ) (ws : List (List ℕ)) → are_plain (w ∷ ws) ≡ true → (is_short (line_of (w ∷ ws)) ≡ true) × (words_of (join_with_byte 32 (w ∷ ws)) ≡ w ∷ ws)
+plain_is_short laws w ws h =
+    let p = and_parts (are_visible (w ∷ ws)) (leb (length (w ∷ ws)) 12) h in
+    let again = laws.words.lines.words w ws p.0 in
+    let count = length-slice_split (λ b. eqb b 32) (join_with_byte 32 (w ∷ ws)) in
+    let same : length (words_of (join_with_byte 32 (w ∷ ws))) ≡ length (w ∷ ws) = ap length again in
+    (le-leb (count_by (λ b. eqb b 32) (join_with_byte 32 (w ∷ ws))) 11 (omega (arith, count, same, leb-true _ _ p.1)), again)

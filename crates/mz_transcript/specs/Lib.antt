@@ -2,6 +2,5 @@ pub mod Entries
 pub mod Outcomes
 pub mod Listings
 pub mod RunLines
-pub mod RunParsing
+pub mod Stages
 pub mod RunFaults
-pub mod RunRests

@@ -1,13 +1,12 @@
--- The listing and the statistics of a printed run, from their words. This follows the code; that they are those of the texts
--- is proved.
-use Rattle.std.specs.Prelude.{ℕ, List, [], ◌∷◌, Option, Some, None, if◌then◌else◌}
-use Rattle.std.specs.Str.{bytes_eq}
+-- The listing of a printed run, from its words. This follows the code; that they are those of the texts is
+-- proved.
+use Rattle.std.specs.Prelude.{ℕ, List, [], ◌∷◌, Option, Some, None}
 use Rattle.mz_words.specs.declared.kind.Word.{Word}
 use Rattle.mz_words.specs.declared.kind.Word.TheVariants.{Number, Range, Zone}
 use Rattle.mz_words.specs.declared.table.Form.{Form}
 use Rattle.mz_words.specs.declared.table.Form.TheVariants as form
 use Rattle.mz_words.specs.declared.table.TheConstants.{LISTING}
-use Rattle.mz_words.specs.Numbers.{number_of, ◌>>=◌}
+use Rattle.mz_words.specs.Numbers.{◌>>=◌}
 use Rattle.mz_words.specs.Sentences.{sentence_in}
 use Rattle.mz_trace.specs.declared.tail.Listed.{Listed}
 
@@ -18,8 +17,3 @@ listed_of _ _ = None
 
 abbrev pub listed_in : List (List ℕ) → Option Listed
 listed_in ts = sentence_in 0 LISTING ts >>= λ s. listed_of s.form s.words
-
--- the number in a statistics line of this name
-abbrev pub statistic_in : List ℕ → List (List ℕ) → Option ℕ
-statistic_in name (w ∷ n ∷ []) = if bytes_eq w name then number_of n else None
-statistic_in name _ = None

@@ -1,212 +1,101 @@
--- What the lines of a printed run's rounds come to, one after the other.
-use Rattle.std.specs.Prelude.{ℕ, ◌+◌, ◌==◌, ◌&&◌, Bool, true, false, nat_lt, List, [], ◌∷◌, ◌++◌, Option, None, Some, codes, if◌then◌else◌}
+-- The lines of a printed run: their words, and how words are read where a line is due. That the lines are those of the texts
+-- is proved.
+use Rattle.std.specs.Prelude.{ℕ, ◌&&◌, List, [], ◌∷◌, Option, None, Some, codes, if◌then◌else◌}
 use Rattle.std.specs.Str.{bytes_eq}
-use Rattle.mz_trace.specs.declared.round.TheConstants.{MOST_ROUNDS}
-use Rattle.mz_trace.specs.declared.answer.Answer.{Answer}
-use Rattle.mz_trace.specs.declared.command.Command.{Command}
-use Rattle.mz_trace.specs.declared.round.RoundLine.{RoundLine}
-use Rattle.mz_trace.specs.declared.run.Step.{Step}
-use Rattle.mz_trace.specs.declared.run.StartRecord.{StartRecord}
-use Rattle.mz_trace.specs.declared.run.CallRecord.{CallRecord}
-use Rattle.mz_trace.specs.declared.run.RunRound.{RunRound}
-use Rattle.mz_transcript.specs.declared.reader.Part.{Part}
-use Rattle.mz_transcript.specs.declared.reader.Part.TheVariants as part
-use Rattle.mz_transcript.specs.declared.reader.Asked.{Asked}
-use Rattle.mz_transcript.specs.declared.reader.Asked.TheVariants as asked
-use Rattle.mz_transcript.specs.declared.reader.RunReader.{RunReader}
-use Rattle.mz_transcript.specs.declared.reader.Read.{Read}
-use Rattle.mz_transcript.specs.declared.reader.Read.TheVariants.{Bad, On, End}
-use Rattle.mz_words.specs.Numbers.{number_of}
-use Rattle.mz_trace.specs.Lines.{given_by}
-use Rattle.mz_trace.specs.Given.{has_name, with_name}
+use Rattle.mz_transcript.specs.declared.line.Counter.{Counter}
+use Rattle.mz_transcript.specs.declared.line.Counter.TheVariants.{BlocksInUse, SizeInUse, MaxSizeInUse, SizeAllocated}
+use Rattle.mz_transcript.specs.declared.line.RunLine.{RunLine}
+use Rattle.mz_transcript.specs.declared.line.RunLine.TheVariants as line
+use Rattle.mz_transcript.specs.declared.line.Due.{Due}
+use Rattle.mz_transcript.specs.declared.line.Due.TheVariants as due
+use Rattle.mz_words.specs.Numbers.{number_of, ◌>>=◌}
+use Rattle.mz_trace.specs.Commands.{command_in}
+use Rattle.mz_trace.specs.RoundLines.{start_in}
+use Rattle.mz_trace.specs.Spaces.{profile_in}
 use Rattle.mz_transcript.specs.Entries.{step_in}
 use Rattle.mz_transcript.specs.Outcomes.{answer_in}
-use Rattle.mz_trace.specs.RoundLines.{start_in}
-use Rattle.mz_trace.specs.Commands.{command_in}
+use Rattle.mz_transcript.specs.Listings.{listed_in}
 
--- nothing was read
-abbrev pub blank_reader : ℕ → RunReader
-blank_reader callers = record {
-  callers = callers;
-  begun = 0;
-  given = [];
-  rounds = [];
-  part = part.Outside;
-  starts = [];
-  lists = [];
-  calls = [];
-  asked = None;
-  steps = [];
-}
+-- the word in front of each of the statistics
+abbrev pub counter_word : Counter → List ℕ
+counter_word BlocksInUse = codes "blocks_in_use"
+counter_word SizeInUse = codes "size_in_use"
+counter_word MaxSizeInUse = codes "max_size_in_use"
+counter_word SizeAllocated = codes "size_allocated"
 
--- the sections of a round, with the open one
-abbrev pub closed_lists : Part → List (List CallRecord) → List CallRecord → List (List CallRecord)
-closed_lists part.Outside lists calls = lists
-closed_lists part.Starts lists calls = lists
-closed_lists (part.Section c) lists calls = lists ++ calls ∷ []
+-- the first two lines
+abbrev pub first_in : List (List ℕ) → Option RunLine
+first_in (w ∷ v ∷ []) = if bytes_eq w (codes "mzone-run") && bytes_eq v (codes "1") then Some line.First else None
+first_in _ = None
 
--- the rounds, with the open one
-abbrev pub closed_rounds : List RunRound → Part → List StartRecord → List (List CallRecord) → List CallRecord → List RunRound
-closed_rounds rounds part.Outside starts lists calls = rounds
-closed_rounds rounds part.Starts starts lists calls = rounds ++ record { starts = starts; callers = lists } ∷ []
-closed_rounds rounds (part.Section c) starts lists calls = rounds ++ record { starts = starts; callers = lists ++ calls ∷ [] } ∷ []
+abbrev pub space_in : List (List ℕ) → Option RunLine
+space_in ws = profile_in ws >>= λ p. Some (line.Space p)
 
--- the open round, if there is one, has all its sections
-abbrev pub complete_at : ℕ → Part → Bool
-complete_at callers part.Outside = true
-complete_at callers part.Starts = false
-complete_at callers (part.Section c) = c + 1 == callers
+-- headings: `round`, `end`, and `caller` with a number
+abbrev pub bare_heading : List ℕ → Option RunLine
+bare_heading w = if bytes_eq w (codes "round") then Some line.Round else if bytes_eq w (codes "end") then Some line.End else None
 
-abbrev pub is_complete : RunReader → Bool
-is_complete r = complete_at r.callers r.part
+abbrev pub caller_heading : List ℕ → List ℕ → Option RunLine
+caller_heading w n = if bytes_eq w (codes "caller") then (number_of n >>= λ c. Some (line.Caller c)) else None
 
--- the caller whose section comes next
-abbrev pub caller_after : ℕ → Part → Option ℕ
-caller_after callers part.Outside = None
-caller_after callers part.Starts = Some 0
-caller_after callers (part.Section c) = if nat_lt (c + 1) callers then Some (c + 1) else None
+abbrev pub heading_of : List ℕ → List (List ℕ) → Option RunLine
+heading_of w [] = bare_heading w
+heading_of w (n ∷ []) = caller_heading w n
+heading_of w (n ∷ x ∷ ws) = None
 
-abbrev pub next_caller : RunReader → Option ℕ
-next_caller r = caller_after r.callers r.part
+abbrev pub heading_in : List (List ℕ) → Option RunLine
+heading_in [] = None
+heading_in (w ∷ ws) = heading_of w ws
 
--- a round begins
-abbrev pub with_round : RunReader → RunReader
-with_round r = record {
-  callers = r.callers;
-  begun = r.begun + 1;
-  given = r.given;
-  rounds = closed_rounds r.rounds r.part r.starts r.lists r.calls;
-  part = part.Starts;
-  starts = [];
-  lists = [];
-  calls = [];
-  asked = r.asked;
-  steps = r.steps;
-}
+-- what is asked stands behind a `>`
+abbrev pub start_line_in : List (List ℕ) → Option RunLine
+start_line_in ws = start_in 0 ws >>= λ x. Some (line.Start x)
 
--- the section of a caller begins
-abbrev pub with_section : RunReader → ℕ → RunReader
-with_section r caller = record {
-  callers = r.callers;
-  begun = r.begun;
-  given = r.given;
-  rounds = r.rounds;
-  part = part.Section caller;
-  starts = r.starts;
-  lists = closed_lists r.part r.lists r.calls;
-  calls = [];
-  asked = r.asked;
-  steps = r.steps;
-}
+abbrev pub start_or_heading_in : List (List ℕ) → Option RunLine
+start_or_heading_in [] = None
+start_or_heading_in (w ∷ ws) = if bytes_eq w (codes ">") then start_line_in ws else heading_of w ws
 
--- the open record ends
-abbrev pub with_start_record : RunReader → RoundLine → Answer → RunReader
-with_start_record r line a = record r { starts = r.starts ++ record { line = line; steps = r.steps; answer = a } ∷ []; asked = None; steps = [] }
+abbrev pub call_line_in : ℕ → List (List ℕ) → Option RunLine
+call_line_in callers ws = command_in callers ws >>= λ k. Some (line.Call k)
 
-abbrev pub with_call_record : RunReader → Command → Answer → RunReader
-with_call_record r command a = record r { calls = r.calls ++ record { command = command; steps = r.steps; answer = a } ∷ []; asked = None; steps = [] }
+abbrev pub call_or_heading_in : ℕ → List (List ℕ) → Option RunLine
+call_or_heading_in callers [] = None
+call_or_heading_in callers (w ∷ ws) = if bytes_eq w (codes ">") then call_line_in callers ws else heading_of w ws
 
-abbrev pub with_record : RunReader → Asked → Answer → RunReader
-with_record r (asked.Start line) a = with_start_record r line a
-with_record r (asked.Call command) a = with_call_record r command a
+-- what became of it: entries, and the answer behind a `=`
+abbrev pub answer_line_in : List (List ℕ) → Option RunLine
+answer_line_in ws = answer_in ws >>= λ a. Some (line.Answer a)
 
--- a record is open, and has one more entry
-abbrev pub with_asked : RunReader → Asked → RunReader
-with_asked r a = record r { asked = Some a }
+abbrev pub entry_line_in : List (List ℕ) → Option RunLine
+entry_line_in ws = step_in ws >>= λ e. Some (line.Entry e)
 
-abbrev pub with_given : RunReader → List ℕ → RunReader
-with_given r name = record r { given = with_name r.given name }
+abbrev pub told_in : List (List ℕ) → Option RunLine
+told_in [] = None
+told_in (w ∷ ws) = if bytes_eq w (codes "=") then answer_line_in ws else entry_line_in (w ∷ ws)
 
-abbrev pub with_step : RunReader → Step → RunReader
-with_step r e = record r { steps = r.steps ++ e ∷ [] }
+-- the listing, and the statistics
+abbrev pub counted : Counter → List ℕ → List ℕ → Option RunLine
+counted k w n = if bytes_eq w (counter_word k) then (number_of n >>= λ v. Some (line.Statistic k v)) else None
 
--- an entry, and an answer
-abbrev pub step_taken : RunReader → Option Step → Read
-step_taken r None = Bad
-step_taken r (Some e) = On (with_step r e)
+abbrev pub statistic_in : Counter → List (List ℕ) → Option RunLine
+statistic_in k (w ∷ n ∷ []) = counted k w n
+statistic_in k _ = None
 
-abbrev pub step_read : RunReader → List (List ℕ) → Read
-step_read r words = step_taken r (step_in words)
+abbrev pub listed_line_in : List (List ℕ) → Option RunLine
+listed_line_in ws = listed_in ws >>= λ b. Some (line.Block b)
 
-abbrev pub answer_taken : RunReader → Asked → Option Answer → Read
-answer_taken r a None = Bad
-answer_taken r a (Some given) = On (with_record r a given)
+abbrev pub block_in : List (List ℕ) → Option RunLine
+block_in [] = None
+block_in (w ∷ ws) = if bytes_eq w (codes "block") then listed_line_in (w ∷ ws) else statistic_in BlocksInUse (w ∷ ws)
 
-abbrev pub answer_read : RunReader → Asked → List (List ℕ) → Read
-answer_read r a words = answer_taken r a (answer_in words)
-
--- a line of an open record
-abbrev pub record_line_read : RunReader → Asked → List (List ℕ) → Read
-record_line_read r a [] = Bad
-record_line_read r a (w ∷ ws) = if bytes_eq w (codes "=") then answer_read r a ws else step_read r (w ∷ ws)
-
--- a line at the start of a round
-abbrev pub start_taken : RunReader → Option RoundLine → Read
-start_taken r None = Bad
-start_taken r (Some line) = On (with_asked r (asked.Start line))
-
-abbrev pub start_asked : RunReader → List (List ℕ) → Read
-start_asked r words = start_taken r (start_in 0 words)
-
--- a command; a name under which it gives a block is a new one
-abbrev pub command_given : RunReader → Command → Option (List ℕ) → Read
-command_given r command None = On (with_asked r (asked.Call command))
-command_given r command (Some base) = if has_name r.given base then Bad else On (with_asked (with_given r base) (asked.Call command))
-
-abbrev pub command_asked : RunReader → Command → Read
-command_asked r command = command_given r command (given_by command)
-
-abbrev pub command_taken : RunReader → Option Command → Read
-command_taken r None = Bad
-command_taken r (Some command) = command_asked r command
-
-abbrev pub call_asked : RunReader → List (List ℕ) → Read
-call_asked r words = command_taken r (command_in r.callers words)
-
--- the headings
-abbrev pub round_read : RunReader → Read
-round_read r = if is_complete r && nat_lt r.begun MOST_ROUNDS then On (with_round r) else Bad
-
-abbrev pub end_read : RunReader → Read
-end_read r = if is_complete r then End (closed_rounds r.rounds r.part r.starts r.lists r.calls) else Bad
-
--- this number is that of the next caller
-abbrev pub is_number_of : ℕ → Option ℕ → Bool
-is_number_of next None = false
-is_number_of next (Some n) = n == next
-
-abbrev pub caller_taken : RunReader → Option ℕ → Option ℕ → Read
-caller_taken r None number = Bad
-caller_taken r (Some next) number = if is_number_of next number then On (with_section r next) else Bad
-
-abbrev pub caller_read : RunReader → Option ℕ → Read
-caller_read r number = caller_taken r (next_caller r) number
-
-abbrev pub word_read : RunReader → List ℕ → Read
-word_read r w = if bytes_eq w (codes "round") then round_read r else if bytes_eq w (codes "end") then end_read r else Bad
-
-abbrev pub pair_read : RunReader → List ℕ → List ℕ → Read
-pair_read r w n = if bytes_eq w (codes "caller") then caller_read r (number_of n) else Bad
-
-abbrev pub heading_read : RunReader → List (List ℕ) → Read
-heading_read r (w ∷ []) = word_read r w
-heading_read r (w ∷ n ∷ []) = pair_read r w n
-heading_read r _ = Bad
-
--- a line outside records
-abbrev pub asked_at : RunReader → Part → List (List ℕ) → Read
-asked_at r part.Outside words = Bad
-asked_at r part.Starts words = start_asked r words
-asked_at r (part.Section c) words = call_asked r words
-
-abbrev pub asked_read : RunReader → List (List ℕ) → Read
-asked_read r [] = Bad
-asked_read r (w ∷ ws) = if bytes_eq w (codes ">") then asked_at r r.part ws else heading_read r (w ∷ ws)
-
--- what one more line comes to
-abbrev pub line_read_at : RunReader → Option Asked → List (List ℕ) → Read
-line_read_at r None words = asked_read r words
-line_read_at r (Some a) words = record_line_read r a words
-
-abbrev pub line_read : RunReader → List (List ℕ) → Read
-line_read r words = line_read_at r r.asked words
+-- the line that words are where this is due
+abbrev pub line_in : Due → List (List ℕ) → Option RunLine
+line_in due.First ws = first_in ws
+line_in due.Space ws = space_in ws
+line_in due.Heading ws = heading_in ws
+line_in due.Start ws = start_or_heading_in ws
+line_in (due.Call callers) ws = call_or_heading_in callers ws
+line_in due.Told ws = told_in ws
+line_in due.Block ws = block_in ws
+line_in (due.Statistic k) ws = statistic_in k ws
+line_in due.Nothing ws = None

@@ -1,6 +1,7 @@
 //! Entries of a printed run, from their words.
 
 ghost use Rattle.std.specs.Prelude.{◌≡◌, IfOk, map};
+ghost use Rattle.mz_words.specs.declared.table.Form.TheVariants as form;
 ghost use Rattle.mz_transcript.specs.Entries.{event_of, event_in, step_in};
 
 use mz_events::Event;
@@ -31,104 +32,170 @@ fn event_of(form: Form, words: &[Word]) -> Option<Event>
     ensures { result ≡ event_of form words.now }
 {
     match form {
-        Form::Take => match words {
-            [Word::Place(k), Word::Number(first), Word::Number(pages)] => Some(Event::Take {
-                k: *k,
-                first: *first,
-                pages: *pages,
-            }),
-            _ => None,
-        },
-        Form::Back => match words {
-            [Word::Place(k), Word::Number(first), Word::Number(pages)] => Some(Event::Back {
-                k: *k,
-                first: *first,
-                pages: *pages,
-            }),
-            _ => None,
-        },
-        Form::Move => match words {
-            [Word::Number(first), Word::Place(from), Word::Place(to)] => Some(Event::Move {
-                first: *first,
-                from: *from,
-                to: *to,
-            }),
-            _ => None,
-        },
-        Form::New => match words {
-            [
-                Word::Place(k),
-                Word::Number(a),
-                Word::Number(s),
-                Word::Number(al),
-            ] => Some(Event::New {
-                k: *k,
-                a: *a,
-                s: *s,
-                al: *al,
-            }),
-            _ => None,
-        },
-        Form::End => match words {
-            [Word::Place(k), Word::Number(a), Word::Number(s)] => Some(Event::End {
-                k: *k,
-                a: *a,
-                s: *s,
-            }),
-            _ => None,
-        },
-        Form::Resize => match words {
-            [
-                Word::Place(k),
-                Word::Number(a),
-                Word::Number(s),
-                Word::Number(s2),
-            ] => Some(Event::Size {
-                k: *k,
-                a: *a,
-                s: *s,
-                s2: *s2,
-            }),
-            _ => None,
-        },
-        Form::Full => match words {
-            [Word::Place(k), Word::Number(n), Word::Number(al)] => Some(Event::Full {
-                k: *k,
-                n: *n,
-                al: *al,
-            }),
-            _ => None,
-        },
-        Form::Dry => match words {
-            [Word::Small(zone), Word::Number(pages), Word::Number(al)] => Some(Event::Dry {
-                zone: *zone,
-                pages: *pages,
-                al: *al,
-            }),
-            _ => None,
-        },
-        Form::No => match words {
-            [
-                Word::Place(k),
-                Word::Small(zone),
-                Word::Number(a),
-                Word::Number(s),
-            ] => Some(Event::No {
-                k: *k,
-                zone: *zone,
-                a: *a,
-                s: *s,
-            }),
-            _ => None,
-        },
-        Form::Open => match words {
-            [Word::Small(zone)] => Some(Event::Open { zone: *zone }),
-            _ => None,
-        },
-        Form::Shut => match words {
-            [Word::Small(zone)] => Some(Event::Shut { zone: *zone }),
-            _ => None,
-        },
+        Form::Take => take_of(words),
+        Form::Back => back_of(words),
+        Form::Move => move_of(words),
+        Form::New => new_of(words),
+        Form::End => end_of(words),
+        Form::Resize => size_of(words),
+        Form::Full => full_of(words),
+        Form::Dry => dry_of(words),
+        Form::No => no_of(words),
+        Form::Open => open_of(words),
+        Form::Shut => shut_of(words),
+        _ => None,
+    }
+}
+
+fn take_of(words: &[Word]) -> Option<Event>
+    ensures { result ≡ event_of form.Take words.now }
+{
+    match words {
+        [Word::Place(k), Word::Number(first), Word::Number(pages)] => Some(Event::Take {
+            k: *k,
+            first: *first,
+            pages: *pages,
+        }),
+        _ => None,
+    }
+}
+
+fn back_of(words: &[Word]) -> Option<Event>
+    ensures { result ≡ event_of form.Back words.now }
+{
+    match words {
+        [Word::Place(k), Word::Number(first), Word::Number(pages)] => Some(Event::Back {
+            k: *k,
+            first: *first,
+            pages: *pages,
+        }),
+        _ => None,
+    }
+}
+
+fn move_of(words: &[Word]) -> Option<Event>
+    ensures { result ≡ event_of form.Move words.now }
+{
+    match words {
+        [Word::Number(first), Word::Place(from), Word::Place(to)] => Some(Event::Move {
+            first: *first,
+            from: *from,
+            to: *to,
+        }),
+        _ => None,
+    }
+}
+
+fn new_of(words: &[Word]) -> Option<Event>
+    ensures { result ≡ event_of form.New words.now }
+{
+    match words {
+        [
+            Word::Place(k),
+            Word::Number(a),
+            Word::Number(s),
+            Word::Number(al),
+        ] => Some(Event::New {
+            k: *k,
+            a: *a,
+            s: *s,
+            al: *al,
+        }),
+        _ => None,
+    }
+}
+
+fn end_of(words: &[Word]) -> Option<Event>
+    ensures { result ≡ event_of form.End words.now }
+{
+    match words {
+        [Word::Place(k), Word::Number(a), Word::Number(s)] => Some(Event::End {
+            k: *k,
+            a: *a,
+            s: *s,
+        }),
+        _ => None,
+    }
+}
+
+fn size_of(words: &[Word]) -> Option<Event>
+    ensures { result ≡ event_of form.Resize words.now }
+{
+    match words {
+        [
+            Word::Place(k),
+            Word::Number(a),
+            Word::Number(s),
+            Word::Number(s2),
+        ] => Some(Event::Size {
+            k: *k,
+            a: *a,
+            s: *s,
+            s2: *s2,
+        }),
+        _ => None,
+    }
+}
+
+fn full_of(words: &[Word]) -> Option<Event>
+    ensures { result ≡ event_of form.Full words.now }
+{
+    match words {
+        [Word::Place(k), Word::Number(n), Word::Number(al)] => Some(Event::Full {
+            k: *k,
+            n: *n,
+            al: *al,
+        }),
+        _ => None,
+    }
+}
+
+fn dry_of(words: &[Word]) -> Option<Event>
+    ensures { result ≡ event_of form.Dry words.now }
+{
+    match words {
+        [Word::Small(zone), Word::Number(pages), Word::Number(al)] => Some(Event::Dry {
+            zone: *zone,
+            pages: *pages,
+            al: *al,
+        }),
+        _ => None,
+    }
+}
+
+fn no_of(words: &[Word]) -> Option<Event>
+    ensures { result ≡ event_of form.No words.now }
+{
+    match words {
+        [
+            Word::Place(k),
+            Word::Small(zone),
+            Word::Number(a),
+            Word::Number(s),
+        ] => Some(Event::No {
+            k: *k,
+            zone: *zone,
+            a: *a,
+            s: *s,
+        }),
+        _ => None,
+    }
+}
+
+fn open_of(words: &[Word]) -> Option<Event>
+    ensures { result ≡ event_of form.Open words.now }
+{
+    match words {
+        [Word::Small(zone)] => Some(Event::Open { zone: *zone }),
+        _ => None,
+    }
+}
+
+fn shut_of(words: &[Word]) -> Option<Event>
+    ensures { result ≡ event_of form.Shut words.now }
+{
+    match words {
+        [Word::Small(zone)] => Some(Event::Shut { zone: *zone }),
         _ => None,
     }
 }

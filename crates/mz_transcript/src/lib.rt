@@ -6,7 +6,8 @@
 //! that it may only answer that memory is short. Printed bytes fix the run (`laws::one_run`).
 //!
 //! - `entries`, `outcomes`, `listings`: what the lines of a run have beside commands, from sentences.
-//! - `reader`: the rounds so far, and what one more line adds.
+//! - `line`: the lines of a run, from their words, and which of them may come next.
+//! - `stage`: what stands of a run so far, and what the next line adds.
 //! - `parser`: the whole text.
 //! - `fault`: why bytes are no printed run.
 //! - `laws`: what the definitions mean, as contracts of functions that do nothing.
@@ -15,10 +16,11 @@
 mod entries;
 pub mod fault;
 pub mod laws;
+mod line;
 mod listings;
 mod outcomes;
 mod parser;
-mod reader;
+mod stage;
 
 pub use fault::RunFault;
 pub use parser::parse_run;

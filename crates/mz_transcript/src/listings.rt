@@ -1,10 +1,9 @@
 //! The listing and the statistics of a printed run, from their words.
 
 ghost use Rattle.std.specs.Prelude.{◌≡◌, IfOk, map};
-ghost use Rattle.mz_transcript.specs.Listings.{listed_of, listed_in, statistic_in};
+ghost use Rattle.mz_transcript.specs.Listings.{listed_of, listed_in};
 
 use mz_trace::Listed;
-use mz_words::numbers::number;
 use mz_words::table::LISTING;
 use mz_words::{Form, Word, read_sentence};
 use std::alloc::{AllocError, Global};
@@ -38,16 +37,6 @@ fn listed_of(form: Form, words: &[Word]) -> Option<Listed>
             }),
             _ => None,
         },
-        _ => None,
-    }
-}
-
-/// The number in a statistics line of this name.
-pub fn statistic(name: &[u8], words: &[&[u8]]) -> Option<u64>
-    ensures { result ≡ statistic_in name.now (map (λ w. w.now) words.now) }
-{
-    match words {
-        [word, n] => { if *word == name { number(n) } else { None } }
         _ => None,
     }
 }

@@ -1,7 +1,7 @@
 //! Answers of a printed run, from their words.
 
 ghost use Rattle.std.specs.Prelude.{◌≡◌, IfOk, map};
-ghost use Rattle.mz_transcript.specs.Outcomes.{answer_of, answer_in};
+ghost use Rattle.mz_transcript.specs.Outcomes.{answer_of, answer_in, bare_answer, counting_answer, telling_answer};
 
 use mz_trace::Answer;
 use mz_words::table::ANSWERS;
@@ -12,91 +12,68 @@ use std::alloc::{AllocError, Global};
 fn answer_of(form: Form, words: &[Word]) -> Option<Answer>
     ensures { result ≡ answer_of form words.now }
 {
+    match words {
+        [] => bare_answer(form),
+        [_, ..] => telling_answer(form, words),
+    }
+}
+
+/// An answer that is one word.
+fn bare_answer(form: Form) -> Option<Answer>
+    ensures { result ≡ bare_answer form }
+{
     match form {
-        Form::Held => match words {
-            [] => Some(Answer::Held),
-            _ => None,
-        },
-        Form::NoZone => match words {
-            [] => Some(Answer::NoZone),
-            _ => None,
-        },
-        Form::Overflow => match words {
-            [] => Some(Answer::Overflow),
-            _ => None,
-        },
-        Form::BadAlign => match words {
-            [] => Some(Answer::BadAlign),
-            _ => None,
-        },
-        Form::NotHeld => match words {
-            [] => Some(Answer::NotHeld),
-            _ => None,
-        },
-        Form::WrongSize => match words {
-            [Word::Number(s)] => Some(Answer::WrongSize { s: *s }),
-            _ => None,
-        },
-        Form::OutOfRange => match words {
-            [] => Some(Answer::OutOfRange),
-            _ => None,
-        },
-        Form::NameTaken => match words {
-            [] => Some(Answer::NameTaken),
-            _ => None,
-        },
-        Form::TooMany => match words {
-            [] => Some(Answer::TooMany),
-            _ => None,
-        },
-        Form::IsDefault => match words {
-            [] => Some(Answer::IsDefault),
-            _ => None,
-        },
-        Form::HasLive => match words {
-            [Word::Number(n)] => Some(Answer::HasLive { n: *n }),
-            _ => None,
-        },
-        Form::Null => match words {
-            [] => Some(Answer::Null),
-            _ => None,
-        },
-        Form::Nowhere => match words {
-            [] => Some(Answer::Nowhere),
-            _ => None,
-        },
-        Form::Done => match words {
-            [] => Some(Answer::Done),
-            _ => None,
-        },
-        Form::NotLive => match words {
-            [] => Some(Answer::NotLive),
-            _ => None,
-        },
+        Form::Held => Some(Answer::Held),
+        Form::NoZone => Some(Answer::NoZone),
+        Form::Overflow => Some(Answer::Overflow),
+        Form::BadAlign => Some(Answer::BadAlign),
+        Form::NotHeld => Some(Answer::NotHeld),
+        Form::OutOfRange => Some(Answer::OutOfRange),
+        Form::NameTaken => Some(Answer::NameTaken),
+        Form::TooMany => Some(Answer::TooMany),
+        Form::IsDefault => Some(Answer::IsDefault),
+        Form::Null => Some(Answer::Null),
+        Form::Nowhere => Some(Answer::Nowhere),
+        Form::Done => Some(Answer::Done),
+        Form::NotLive => Some(Answer::NotLive),
+        _ => None,
+    }
+}
+
+/// An answer that tells something.
+fn telling_answer(form: Form, words: &[Word]) -> Option<Answer>
+    ensures { result ≡ telling_answer form words.now }
+{
+    match form {
         Form::Block => match words {
             [Word::Number(a), Word::Number(s)] => Some(Answer::Block { a: *a, s: *s }),
-            _ => None,
-        },
-        Form::SizeIs => match words {
-            [Word::Number(s)] => Some(Answer::Size { s: *s }),
             _ => None,
         },
         Form::Bytes => match words {
             [Word::Bytes(shown)] => Some(Answer::Bytes { shown: *shown }),
             _ => None,
         },
-        Form::Got => match words {
-            [Word::Number(n)] => Some(Answer::Got { n: *n }),
-            _ => None,
-        },
-        Form::Freed => match words {
-            [Word::Number(n)] => Some(Answer::Freed { n: *n }),
-            _ => None,
-        },
         Form::InZone => match words {
             [Word::Zone(name)] => Some(Answer::Zone { name: *name }),
             _ => None,
         },
+        _ => match words {
+            [Word::Number(n)] => counting_answer(form, *n),
+            _ => None,
+        },
+    }
+}
+
+/// An answer that tells a number.
+fn counting_answer(form: Form, n: u64) -> Option<Answer>
+    ensures { result ≡ counting_answer form n }
+{
+    match form {
+        Form::WrongSize => Some(Answer::WrongSize { s: n }),
+        Form::HasLive => Some(Answer::HasLive { n }),
+        Form::SizeIs => Some(Answer::Size { s: n }),
+        Form::Got => Some(Answer::Got { n }),
+        Form::Freed => Some(Answer::Freed { n }),
         _ => None,
     }
 }

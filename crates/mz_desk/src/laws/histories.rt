@@ -2,7 +2,7 @@
 
 ghost use Rattle.mz_desk.specs.Laws.{DeskLaws};
 
-use mz_book::laws::{notes, numbers, slots};
+use mz_book::laws::{hands, notes, numbers, slots};
 use mz_events::laws::{entries, holding, separation};
 
 /// They hold, all together.
@@ -14,6 +14,7 @@ pub(crate) fn of_histories()
     entries::lawful_entries_split();
     entries::states_split();
     entries::own_entries_and_hands();
+    hands::hands_after_an_event();
     separation::live_blocks_are_ascending();
     numbers::numbers_of_keepers();
     numbers::held_places();

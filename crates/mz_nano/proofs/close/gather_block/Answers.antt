@@ -20,7 +20,7 @@ extend-requires-clause-space c =
     let lt = c.loop-j-test.true in
     let e = k.2 in
     let p = k.1.each j (omega arith) in
-    let same : p.span ≡ c.in-Some.span = somes p.span c.in-Some.span (taken_is (slots_items c.args.closed.now.slots) (slots_items c.loop-j.closed.slots) (c.args.b * 1025 + j) p.span c.take_next.result c.loop-j.invariant.same.items p.here c.take_next.ensures.value ∙ c.in-Some.is) in
+    let same : p.span ≡ c.in-Some.parcel = somes p.span c.in-Some.parcel (taken_is (slots_items c.args.closed.now.slots) (slots_items c.loop-j.closed.slots) (c.args.b * 1025 + j) p.span c.take_next.result c.loop-j.invariant.same.items p.here c.take_next.ensures.value ∙ c.in-Some.is) in
     ap (λ (s : SpanView). s.space) (sym same) ∙ (p.piece.space ∙ (sym k.3 ∙ sym c.loop-j.invariant.space))
 
 pub extend-requires-clause-adjacent : goal.extend-requires-clause-adjacent
@@ -30,8 +30,8 @@ extend-requires-clause-adjacent c =
     let lt = c.loop-j-test.true in
     let e = k.2 in
     let p = k.1.each j (omega arith) in
-    let same : p.span ≡ c.in-Some.span = somes p.span c.in-Some.span (taken_is (slots_items c.args.closed.now.slots) (slots_items c.loop-j.closed.slots) (c.args.b * 1025 + j) p.span c.take_next.result c.loop-j.invariant.same.items p.here c.take_next.ensures.value ∙ c.in-Some.is) in
-    let sf : p.span.first ≡ c.in-Some.span.first = ap (λ (s : SpanView). s.first) same in
+    let same : p.span ≡ c.in-Some.parcel = somes p.span c.in-Some.parcel (taken_is (slots_items c.args.closed.now.slots) (slots_items c.loop-j.closed.slots) (c.args.b * 1025 + j) p.span c.take_next.result c.loop-j.invariant.same.items p.here c.take_next.ensures.value ∙ c.in-Some.is) in
+    let sf : p.span.first ≡ c.in-Some.parcel.first = ap (λ (s : SpanView). s.first) same in
     let pf = p.piece.first in let kf = k.4 in let kl = k.5 in let f = c.loop-j.invariant.first in let l = c.loop-j.invariant.len in
     omega arith
 
@@ -52,8 +52,8 @@ loop-j-preserved c =
     let lt = c.loop-j-test.true in
     let e = k.2 in
     let p = k.1.each j (omega arith) in
-    let same : p.span ≡ c.in-Some.span = somes p.span c.in-Some.span (taken_is (slots_items c.args.closed.now.slots) (slots_items c.loop-j.closed.slots) (c.args.b * 1025 + j) p.span c.take_next.result c.loop-j.invariant.same.items p.here c.take_next.ensures.value ∙ c.in-Some.is) in
-    let sl : length p.span.bytes ≡ length c.in-Some.span.bytes = ap (λ (s : SpanView). length s.bytes) same in
+    let same : p.span ≡ c.in-Some.parcel = somes p.span c.in-Some.parcel (taken_is (slots_items c.args.closed.now.slots) (slots_items c.loop-j.closed.slots) (c.args.b * 1025 + j) p.span c.take_next.result c.loop-j.invariant.same.items p.here c.take_next.ensures.value ∙ c.in-Some.is) in
+    let sl : length p.span.bytes ≡ length c.in-Some.parcel.bytes = ap (λ (s : SpanView). length s.bytes) same in
     let pl = p.piece.len in let ri = p.rises in let l = c.loop-j.invariant.len in let el = c.extend.ensures.len in
     let t = c.take_next.ensures.same in let s = c.loop-j.invariant.same in
     record {

@@ -1,5 +1,4 @@
-use Rattle.std.proofs.Common.{◌≡◌, ℕ, take, filter, ap, sym, ◌∙◌}
-use Rattle.mz_events.specs.declared.entry.Entry.{Entry}
+use Rattle.std.proofs.Common.{take, ap}
 use Rattle.mz_events.specs.State.{opening}
 use Rattle.mz_events.specs.History.{after_all}
 use Rattle.mz_record.proofs.MomentLemmas.{before_is}

@@ -1,4 +1,4 @@
-use Rattle.mz_transcript.proofs.StopIsFirstBadLine.{first_is_one}
+use Rattle.mz_transcript.proofs.TextsAreRuns.{first_is_one}
 use Rattle.mz_transcript.proofs.laws.one_first_bad_line.Goals as goal
 
 pub returns : goal.returns

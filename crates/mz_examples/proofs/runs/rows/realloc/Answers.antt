@@ -15,7 +15,7 @@ use Rattle.mz_events.specs.Room.{best_fit}
 use Rattle.mz_events.specs.Effect.{write_all, after}
 use Rattle.mz_events.specs.Rules.{keeps}
 use Rattle.mz_events.specs.History.{after_all, by_ticket, first_breach}
-use Rattle.mz_record.specs.Listing.{by_address}
+use Rattle.mz_events.specs.Separation.{by_address}
 use Rattle.mz_record.specs.Zones.{by_page}
 use Rattle.mz_fit.specs.Standing.{by_index}
 use Rattle.mz_examples.proofs.runs.rows.realloc.Goals as goal

@@ -122,8 +122,8 @@ returns-in-Ok-clause-ok c =
     let kb : me.0.geometry.blocks ≡ c.args.self.now.blocks = (λ i. (q.geometry i).blocks) ∙ c.args.self.now.geometry.0 in
     let es : slot_of w ≡ 0 = ap (λ (x : NanoWord). x.next - 1) ready in
     let newly : IsNewlyReady k w = ready ∙ ap (λ (m : ℕ). record { next = 1; free = m; state = k; generation = 0 }) c.slot_count-n.ensures.count in
-    took_claimed me c.make_ready.new.seat.me c.take_first.new.seat.me b k n w c.pack.result c.in-Ok.span q.live newly view3 car
-    (subst (λ (j : ℕ). TookFirst c.make_ready.new.seat.me b j k w 2 c.in-Ok.span c.take_first.new.seat.me) es c.in-Ok.ensures.ok)
+    took_claimed me c.make_ready.new.seat.me c.take_first.new.seat.me b k n w c.pack.result c.in-Ok.parcel q.live newly view3 car
+    (subst (λ (j : ℕ). TookFirst c.make_ready.new.seat.me b j k w 2 c.in-Ok.parcel c.take_first.new.seat.me) es c.in-Ok.ensures.ok)
 
 pub returns-in-Err-clause-err : goal.returns-in-Err-clause-err
 returns-in-Err-clause-err c =

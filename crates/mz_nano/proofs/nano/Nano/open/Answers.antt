@@ -6,7 +6,7 @@ use Rattle.mz_nano.proofs.nano.Nano.open.Goals as goal
 
 pub new-requires : goal.new-requires
 new-requires c =
-    let key : Geometry = record { blocks = c.len-blocks.result / 16384; most_gen = c.args.most_gen; seats = c.args.seats; edge = c.split-edge.result.0 } in
+    let key : Geometry = record { blocks = c.len-blocks.result / 16384; most_gen = c.args.most_gen; seats = c.args.seats; edge = c.cut_off-pages.new.self } in
     opens key c.as_slice.result.now c.in_ok-places.places.items (c.as_slice.ensures.value ∙ c.in_ok-words.ensures) c.in_ok-places.ensures (let l = c.requires.last.1 in omega arith) c.requires.count
 
 pub returns-in_ok-list-in-Ok-clause-all : goal.returns-in_ok-list-in-Ok-clause-all

@@ -10,7 +10,7 @@ pub returns-in-Nothing-clause-err : goal.returns-in-Nothing-clause-err
 returns-in-Nothing-clause-err c =
     let q = c.requires in
     let s = c.in-Nothing.ensures in
-    none_loaded c.args.seat.now.me c.scan.new.seat.me s.loaded.0 c.args.class q.live q.at_rest.0 q.at_rest.1 q.at_rest.2 s.loaded.1 s.carried s.loaded.2
+    none_loaded c.args.seat.now.me c.scan.new.seat.me s.loaded.0 c.args.class q.live q.at_rest.0 q.at_rest.1 q.at_rest.2 s.loaded.1 s.carried s.loaded.2.0 s.loaded.2.1
 
 pub returns-in-Ok-clause-ok : goal.returns-in-Ok-clause-ok
 returns-in-Ok-clause-ok c =
@@ -22,8 +22,8 @@ returns-in-Ok-clause-ok c =
     let o = c.slot_span.ensures in
     let least = c.args.self.now.least in
     let kg : me.0.geometry.most_gen ≡ c.args.self.now.most_gen = (λ i. (q.geometry i).most_gen) ∙ c.args.self.now.geometry.1 in (
-      popped_as me c.claim.new.seat.me b c.slot_span.result.block 0 c.slot_span.result.slot c.args.class c.in-Ok.span c.slot_span.result.span o.which.0 o.which.1 o.span
-          (popped_loaded me c.scan.new.seat.me c.claim.new.seat.me ld.0 b c.args.class c.in-Ok.span q.class.0 q.class.1 (omega arith) ld.2.0 ld.1 ld.2.1 ld.2.2 c.in-Ok.ensures.ok),
+      popped_as me c.claim.new.seat.me b c.slot_span.result.block 0 c.slot_span.result.slot c.args.class c.in-Ok.parcel c.slot_span.result.span o.which.0 o.which.1 o.span
+          (popped_loaded me c.scan.new.seat.me c.claim.new.seat.me ld.0 b c.args.class c.in-Ok.parcel q.class.0 q.class.1 (omega arith) ld.2.0 ld.1 ld.2.1 ld.2.2 c.in-Ok.ensures.ok),
       o.which.2,
       o.base,
     )
@@ -39,7 +39,7 @@ returns-in-Ok-take_first-clause-ok c =
     let j : ℕ = c.in-Usable.word.next - 1 in
     let i : ℕ = c.args.self.now.blocks + b * 1024 + j in
     let o = c.slot_span-in-Ok-take_first.ensures in
-    let span = c.in-Ok-take_first.span in
+    let span = c.in-Ok-take_first.parcel in
     let is = ld.2.3 in
     let u = ld.2.4 in
     let cl = q.class in

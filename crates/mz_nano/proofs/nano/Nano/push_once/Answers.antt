@@ -55,10 +55,10 @@ push_exchange-found-requires-clause-can c =
         mine = subst (In (held b j k)) (sym (ap (λ (v : View). v.hand) view)) q.mine;
         stored = subst (In (stored b j (word_of n).next)) (sym (ap (λ (v : View). v.stored) view)) (inl (ap (stored b j) (sym e0)));
         outs = ap (λ (v : View). v.vacant) view;
-        span = c.args.span;
+        span = c.args.parcel;
         others = rest c.store_link.new.seat.me.1;
         carried = ap (λ (y : Standing). y.1) c.exchange-empty.ensures.3;
-        piece = subst (λ (p : Geometry). IsPiece p b (16 * k * j) (16 * k) c.args.span) (sym (ap (λ (v : View). v.geometry) view)) q.piece;
+        piece = subst (λ (p : Geometry). IsPiece p b (16 * k * j) (16 * k) c.args.parcel) (sym (ap (λ (v : View). v.geometry) view)) q.piece;
         next = ap (λ (y : NanoWord). y.next) is;
         free = ap (λ (y : NanoWord). y.free) is ∙ ap (λ (i : ℕ). i + 1) e1;
         state = ap (λ (y : NanoWord). y.state) is ∙ e2;
@@ -113,8 +113,8 @@ pub exchange-requires : goal.exchange-requires
 exchange-requires c =
     let miss = c.push_exchange-found.ensures.pushes.miss c.if-found-old.false in
     let p : ℕ = c.args.block * 1025 + c.args.slot in
-    let car : c.push_exchange-found.new.seat.me.1 ≡ (p, Some c.args.span) ∷ rest c.store_link.new.seat.me.1 = ap (λ (y : Standing). y.1) miss ∙ ap (λ (y : Standing). y.1) c.exchange-empty.ensures.3 in
-    (c.push_exchange-found.ensures.table ∙ (c.exchange-empty.ensures.0 ∙ (c.store_link.ensures.table ∙ (c.load_block-old.ensures.table ∙ c.requires.table))), (Some c.args.span, car ∙ ap (λ (r : List (ℕ × Option SpanView)). (p, Some c.args.span) ∷ r) (sym (ap rest car))))
+    let car : c.push_exchange-found.new.seat.me.1 ≡ (p, Some c.args.parcel) ∷ rest c.store_link.new.seat.me.1 = ap (λ (y : Standing). y.1) miss ∙ ap (λ (y : Standing). y.1) c.exchange-empty.ensures.3 in
+    (c.push_exchange-found.ensures.table ∙ (c.exchange-empty.ensures.0 ∙ (c.store_link.ensures.table ∙ (c.load_block-old.ensures.table ∙ c.requires.table))), (Some c.args.parcel, car ∙ ap (λ (r : List (ℕ × Option SpanView)). (p, Some c.args.parcel) ∷ r) (sym (ap rest car))))
 
 pub give_place-requires-clause-mine : goal.give_place-requires-clause-mine
 give_place-requires-clause-mine c =
@@ -156,8 +156,8 @@ returns-clause-err c =
     let last : c.exchange.new.seat.me.0 ≡ clash_noted (link_stored (word_loaded me.0 b n) b j c.in-Some.word.next) b n x = ap (λ (y : Standing). y.0) c.exchange.ensures.3 ∙ (ap (λ (y : Standing). y.0) miss ∙ ap (λ (v : View). clash_noted v b n x) view) in
     let f : ℕ = c.give_place.result in
     let e : c.give_place.new.seat.me.0 ≡ place_given (clash_noted (link_stored (word_loaded me.0 b n) b j c.in-Some.word.next) b n x) b f = c.give_place.ensures.view ∙ ap (λ (v : View). place_given v b f) last in
-    let car1 : c.push_exchange-found.new.seat.me.1 ≡ (p, Some c.args.span) ∷ rest c.store_link.new.seat.me.1 = ap (λ (y : Standing). y.1) miss ∙ ap (λ (y : Standing). y.1) c.exchange-empty.ensures.3 in
-    let span : c.args.span ≡ c.in-Some-exchange.span = somes c.args.span c.in-Some-exchange.span (heads p (Some c.args.span) c.exchange.result (rest c.store_link.new.seat.me.1) (rest c.push_exchange-found.new.seat.me.1) (sym car1 ∙ c.exchange.ensures.2) ∙ c.in-Some-exchange.is) in
+    let car1 : c.push_exchange-found.new.seat.me.1 ≡ (p, Some c.args.parcel) ∷ rest c.store_link.new.seat.me.1 = ap (λ (y : Standing). y.1) miss ∙ ap (λ (y : Standing). y.1) c.exchange-empty.ensures.3 in
+    let span : c.args.parcel ≡ c.in-Some-exchange.parcel = somes c.args.parcel c.in-Some-exchange.parcel (heads p (Some c.args.parcel) c.exchange.result (rest c.store_link.new.seat.me.1) (rest c.push_exchange-found.new.seat.me.1) (sym car1 ∙ c.exchange.ensures.2) ∙ c.in-Some-exchange.is) in
     let car : c.give_place.new.seat.me.1 ≡ [] = c.give_place.ensures.carried ∙ (ap (λ (y : Standing). rest y.1) c.exchange.ensures.3 ∙ (ap rest car1 ∙ (ap (λ (y : Standing). rest y.1) c.store_link.ensures.me ∙ (c.load_block-old.ensures.carried ∙ q.at_rest.2)))) in (
       sym span,
       record {

@@ -1,12 +1,13 @@
-use Rattle.std.proofs.Common.{◌≡◌, ◌≢◌, ℕ, ◌∷◌, refl, sym, ap, ◌∙◌, subst, arith, inl, ⊎_elim, IsTrue}
+use Rattle.std.proofs.Common.{◌≡◌, ◌≢◌, ℕ, [], ◌∷◌, refl, sym, ap, ◌∙◌, subst, arith, inl, ⊎_elim, IsTrue}
 use Rattle.std.proofs.lemmas.Bool.{cases_eq}
 use Rattle.mz_nanoword.specs.declared.word.NanoWord.{NanoWord}
 use Rattle.mz_nanoword.specs.Words.{word_of}
 use Rattle.mz_nano.specs.declared.view.Geometry.{Geometry}
 use Rattle.mz_nano.specs.declared.view.View.{View}
 use Rattle.mz_nano.specs.StepEffects.{load, IsSound}
-use Rattle.mz_nano.specs.CallEffects.{IsUsable}
-use Rattle.mz_nano.proofs.ScanLemmas.{loaded_more, scan_more, skipped_more, skipped_usable}
+use Rattle.mz_nano.specs.declared.view.Load.{Load}
+use Rattle.mz_nano.specs.CallEffects.{IsUsable, InOrder}
+use Rattle.mz_nano.proofs.ScanLemmas.{loaded_more, scan_more, none_usable}
 use Rattle.mz_nano.proofs.nano.Nano.scan.Goals as goal
 
 pub load_block-w-requires-clause-table : goal.load_block-w-requires-clause-table
@@ -43,7 +44,7 @@ returns-then-is_usable-clause-loaded c =
         w,
         record { class_ = sym e1 ∙ u.0; free = let t = u.1 in omega arith; generation = let t = u.2 in omega arith },
         subst (λ (p : Geometry). IsSound p n) sp c.load_block-w.ensures.sound,
-        skipped_more me.0.geometry c.args.class b 0 (load b n) s.more (skipped_usable me.0.geometry c.args.class b c.loop-b.fresh s.more s.passed),
+        record { later = load b n ∷ []; scan = s.more; loads = refl; order = s.order; each = none_usable me.0.geometry c.args.class b c.loop-b.fresh s.more s.passed },
       ),
     )
 
@@ -87,7 +88,8 @@ returns-then-fresh-self-clause-loaded c =
     let me = c.args.seat.now.me in
     let kb : me.0.geometry.blocks ≡ c.args.self.now.blocks = (λ k. (c.requires.geometry k).blocks) ∙ c.args.self.now.geometry.0 in
     let done = c.loop-b-test.false in let lt = c.if-fresh-self.true in
-    (s.more, s.loaded, (omega arith, s.first (omega arith), λ b l. s.passed b (omega arith)))
+    let all : c.loop-b.b ≡ me.0.geometry.blocks = omega arith in
+    (s.more, s.loaded, (omega arith, s.first (omega arith), record { later = []; scan = s.more; loads = refl; order = subst (λ (k : ℕ). InOrder k s.more) all s.order; each = λ b l. s.passed b (omega arith) }))
 
 pub returns-else-fresh-self-clause-loaded : goal.returns-else-fresh-self-clause-loaded
 returns-else-fresh-self-clause-loaded c =
@@ -95,4 +97,5 @@ returns-else-fresh-self-clause-loaded c =
     let me = c.args.seat.now.me in
     let kb : me.0.geometry.blocks ≡ c.args.self.now.blocks = (λ k. (c.requires.geometry k).blocks) ∙ c.args.self.now.geometry.0 in
     let done = c.loop-b-test.false in let full = c.if-fresh-self.false in let most = c.loop-b.invariant.most in
-    (s.more, s.loaded, λ b l. let t = s.passed b (omega arith) in (t.0, t.1, t.2, λ z. let q = t.3 z in omega arith))
+    let all : c.loop-b.b ≡ me.0.geometry.blocks = omega arith in
+    (s.more, s.loaded, (subst (λ (k : ℕ). InOrder k s.more) all s.order, λ b l. let t = s.passed b (omega arith) in (t.0, t.1, t.2, λ z. let q = t.3 z in omega arith)))

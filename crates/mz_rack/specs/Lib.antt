@@ -9,3 +9,4 @@ pub mod Ways
 pub mod Serving
 pub mod Stages
 pub mod BookLaws
+pub mod Flushing

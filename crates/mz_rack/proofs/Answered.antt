@@ -83,11 +83,11 @@ are_four (e ∷ f ∷ g ∷ []) a b c d h = absurd (cc)
 are_four (e ∷ f ∷ g ∷ i ∷ []) a b c d h = record { w = e; x = f; y = g; z = i; is = refl; first = cc; second = cc; third = cc; fourth = cc }
 are_four (e ∷ f ∷ g ∷ i ∷ j ∷ es) a b c d h = absurd (cc)
 
-get_at : (xs : List Entry) (e : Entry) (ys : List Entry) → slice_get (xs ++ e ∷ ys) (length xs) ≡ Some e
+pub get_at : (xs : List Entry) (e : Entry) (ys : List Entry) → slice_get (xs ++ e ∷ ys) (length xs) ≡ Some e
 get_at [] e ys = refl
 get_at (x ∷ xs) e ys = get_at xs e ys
 
-take_front : (xs ys : List Entry) → take (length xs) (xs ++ ys) ≡ xs
+pub take_front : (xs ys : List Entry) → take (length xs) (xs ++ ys) ≡ xs
 take_front [] ys = refl
 take_front (x ∷ xs) ys = ap (λ es. x ∷ es) (take_front xs ys)
 

@@ -13,3 +13,7 @@ mod KeeperLemmas
 mod StockLemmas
 mod OpeningLemmas
 mod Asked
+mod Looking
+mod Ended
+mod PuttingAside
+mod GivingBack

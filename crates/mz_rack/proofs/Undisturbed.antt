@@ -54,7 +54,7 @@ own_in c (y ∷ ys) e there = elim (cases_Bool (y.caller == c)) [
 
 module _ (p : Profile) (c : ℕ) (j : Spot) where
   -- once it has begun, only c touches the spot
-  begun_alone : (more : List Entry) (x : Entry) → is_undisturbed p c j true more ≡ true → Contains more x → touches p x.event j ≡ true → x.caller ≡ c
+  pub begun_alone : (more : List Entry) (x : Entry) → is_undisturbed p c j true more ≡ true → Contains more x → touches p x.event j ≡ true → x.caller ≡ c
   unfolding is_undisturbed
   begun_alone [] x h (k, l, e) y = absurd (omega arith)
   begun_alone (z ∷ zs) x h there y =
@@ -91,3 +91,15 @@ module _ (p : Profile) (c : ℕ) (j : Spot) where
       always : (d : Bool) → (d || true) ≡ true
       always true = refl
       always false = refl
+
+-- an entry of c is among c's own
+pub among_own : (c : ℕ) (es : List Entry) (x : Entry) → Contains es x → (x.caller == c) ≡ true → Contains (own c es) x
+among_own c [] x (k, l, is) mine = absurd (omega arith)
+among_own c (y ∷ es) x (zero, l, is) mine =
+    subst (λ b. Contains (if b then y ∷ own c es else own c es) x) (sym (ap (λ (w : Entry). w.caller == c) is ∙ mine)) (zero, omega arith, is)
+among_own c (y ∷ es) x (suc k, l, is) mine =
+    let rest = among_own c es x (k, omega arith, is) mine in
+    elim (cases_Bool (y.caller == c)) [
+      | inl t ↦ subst (λ b. Contains (if b then y ∷ own c es else own c es) x) (sym t) (suc rest.0, omega (arith, rest.1), rest.2)
+      | inr n ↦ subst (λ b. Contains (if b then y ∷ own c es else own c es) x) (sym n) rest
+    ]

@@ -4,7 +4,7 @@ use Rattle.mz_base.specs.declared.profile.Profile.{Profile}
 use Rattle.mz_base.specs.Space.{Block, Run}
 use Rattle.mz_base.specs.IdleRuns.{IsIdle}
 use Rattle.mz_base.specs.Room.{has_room_within}
-use Rattle.mz_base.specs.Lists.{has_run}
+use Rattle.mz_base.specs.Lists.{has_run, has_block}
 use Rattle.mz_events.specs.declared.place.Place.{Place}
 use Rattle.mz_events.specs.declared.event.Event.{Event}
 use Rattle.mz_events.specs.declared.event.Event.TheVariants.{Full}
@@ -16,13 +16,14 @@ use Rattle.mz_events.specs.Duties.{is_unused}
 use Rattle.mz_events.specs.History.{AreLawful, after_all}
 use Rattle.mz_events.specs.Holding.{changes_zones, read_spots, ReadsHeld}
 use Rattle.mz_events.specs.Separation.{IsSeparate, IsAscending}
+use Rattle.mz_events.specs.Sameness.{IsOnce, IsBySpot}
 use Rattle.mz_events.specs.Bounds.{RunsFit, RegionsFit}
 use Rattle.mz_events.specs.Magazines.{IsOfRegions, HasDepot}
 use Rattle.mz_events.specs.Fitting.{FoundFull, FitsByEvent}
 use Rattle.mz_events.specs.Leaving.{left_by, LeavesByEvent}
 use Rattle.std.specs.List.{All, Contains}
 use Rattle.mz_book.specs.Keepers.{keeper_count, keeper_of, place_at, is_among, is_held}
-use Rattle.mz_book.specs.Account.{Account, entry_at}
+use Rattle.mz_book.specs.Account.{Account, IsOrderly, known, hand, entry_at}
 use Rattle.mz_book.specs.Calls.{Holds, CanNote, Notes, Releases}
 use Rattle.mz_book.specs.Growth.{Grows, GrowsHolding}
 
@@ -39,6 +40,7 @@ pub record BookLaws : Type 0 where
   pub note : (s t : Account) (e : Event) (n : ℕ) → CanNote s e → changes_zones e ≡ false → Notes s e n t → GrowsHolding s (entry_at n s.caller e ∷ []) 0 t
   pub joined : (s t u : Account) (xs ys : List Entry) (m n : ℕ) → GrowsHolding s xs m t → GrowsHolding t ys n u → GrowsHolding s (xs ++ ys) (m + n) u
   pub ended : (s t u : Account) (xs ys : List Entry) (m n : ℕ) → GrowsHolding s xs m t → Grows t ys n u → Grows s (xs ++ ys) (m + n) u
+  pub looked : (s t : Account) (n : ℕ) → s.held ≡ [] → Grows s [] n t → GrowsHolding s [] n t
   pub release : (s t u : Account) (xs : List Entry) (n k : ℕ) → Grows s xs n t → Releases t k u → Grows s xs n u
   pub number : (p : Profile) (q : Place) → is_nano q ≡ false → IsTrue (exists_in p q) → keeper_of p q < keeper_count p
   pub place : (p : Profile) (q : Place) → is_nano q ≡ false → IsTrue (exists_in p q) → place_at p (keeper_of p q) ≡ q
@@ -57,3 +59,7 @@ pub record BookLaws : Type 0 where
   pub regions_fit : (p : Profile) (es : List Entry) → AreLawful p opening es → RegionsFit p (after_all p opening es)
   pub none_unused : (p : Profile) (es : List Entry) (d : Place) (r : Run) → AreLawful p opening es → IsTrue (is_depot d) → (value_at (after_all p opening es) (spot_of d)).duty ≡ None → IsTrue (has_run (kept_at (after_all p opening es) (spot_of d)).runs r) → is_unused (kept_at (after_all p opening es) (spot_of d)).live r ≡ false
   pub index : (p : Profile) (s : State) (es : List Entry) → AreLawful p s es → (i : ℕ) (e : Entry) → slice_get es i ≡ Some e → e.ticket ≡ s.entries + i
+  pub once_first : IsOnce opening
+  pub once : (p : Profile) (s : State) (es : List Entry) → IsOnce s → IsOnce (after_all p s es)
+  pub by_spot : (s : State) → IsOnce s → IsBySpot s
+  pub somewhere : (s : Account) (b : Block) → IsOrderly s → IsTrue (has_block (hand s) b) → (j : Spot) × IsTrue (has_block (known s j).kept.live b)

@@ -7,6 +7,9 @@ pub mod Answering
 pub mod Lots
 pub mod Ways
 pub mod Serving
+pub mod Freeing
 pub mod Stages
+pub mod Ending
+pub mod FreeStages
 pub mod BookLaws
 pub mod Flushing

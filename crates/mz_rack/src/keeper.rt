@@ -5,23 +5,26 @@ ghost use Rattle.mz_base.specs.declared.profile.Profile.{Profile as profile};
 ghost use Rattle.mz_base.specs.declared.range.TheConstants.{PAGE};
 ghost use Rattle.mz_base.specs.Limits.{IsWithinLimits};
 ghost use Rattle.mz_base.specs.Site.{Site};
-ghost use Rattle.mz_base.specs.Space.{run_end};
+ghost use Rattle.mz_base.specs.Space.{block_at, run_end};
 ghost use Rattle.mz_base.specs.Lists.{size_at};
 ghost use Rattle.mz_events.specs.declared.place.Place.{Place as place};
 ghost use Rattle.mz_events.specs.declared.place.Place.TheVariants as place_is;
-ghost use Rattle.mz_events.specs.Places.{is_magazine, is_depot, is_size_of, is_length_of, nano_start};
+ghost use Rattle.mz_events.specs.declared.event.Event.TheVariants as event;
+ghost use Rattle.mz_events.specs.Places.{is_magazine, is_depot, is_size_of, is_length_of, quantum_of, depot_of, nano_start};
 ghost use Rattle.mz_events.specs.State.{Kept, nothing_kept};
-ghost use Rattle.mz_events.specs.Changes.{with_region, pages_with};
+ghost use Rattle.mz_events.specs.Changes.{with_region, without_block, pages_with};
+ghost use Rattle.mz_events.specs.Duties.{recirculation, empty_depot_region};
 ghost use Rattle.mz_events.specs.Separation.{has_page, InOrder};
 ghost use Rattle.mz_events.specs.Standing.{Keeping, Stands};
 ghost use Rattle.mz_book.specs.Keepers.{keeper_count, place_in_zone};
 ghost use Rattle.mz_book.specs.Plain.{last_site, StandAtFirst};
 ghost use Rattle.mz_rack.specs.Keepings.{lists_of};
-ghost use Rattle.mz_rack.specs.Regions.{run_in, view_in};
+ghost use Rattle.mz_rack.specs.Regions.{quantum_in, run_in, view_in};
 ghost use Rattle.mz_rack.specs.Asking.{IsTidy, MayAsk, MayYield, MayAdopt, MayTake};
 ghost use Rattle.mz_rack.specs.Answering.{Placed, FoundRoom, Yielded, Cut};
 ghost use Rattle.mz_rack.specs.Flushing.{Flushed, IsLackedRun, MayPutRunBack};
 ghost use Rattle.mz_large.specs.Large.{run_of_span};
+ghost use Rattle.mz_rack.specs.Ending.{MayFree, IsLacked, MayPutBack};
 
 use crate::region::AnyRegion;
 use crate::shelf::Shelf;
@@ -261,5 +264,76 @@ impl Keeper {
             unreachable!()
         };
         stock.pages.back(run);
+    }
+
+    // Takes a live block of a magazine or a depot back.
+    pub(crate) fn free(&mut self, span: Span)
+        requires { MayFree self.old span }
+        ensures { (x : Site) (p : profile) (q : place) (k : Kept) → Stands self.old x p q k → IsTrue (is_magazine q || is_depot q) → Stands self.new x p q (without_block q (block_at span.first (length span.bytes)) k) }
+    {
+        let freed = match &mut self.kind {
+            Kind::Tiny(shelf) => shelf.magazine.free(span),
+            Kind::Small(shelf) => shelf.magazine.free(span),
+            Kind::Pages(_) | Kind::Large(_) => Err(span),
+        };
+        if freed.is_err() {
+            unreachable!()
+        }
+    }
+
+    // The first page of the lowest sparse region of a magazine in excess, which it owes to its depot.
+    pub(crate) fn surplus(&self) -> Option<u64>
+        ensures { (x : Site) (p : profile) (q : place) (k : Kept) → Stands self.now x p q k → IsTrue (is_magazine q) → recirculation q k ≡ option_map (λ f. event.Move f q (depot_of q)) result }
+    {
+        let sparse = match &self.kind {
+            Kind::Tiny(shelf) if shelf.magazine.excess() => shelf.magazine.sparse(),
+            Kind::Small(shelf) if shelf.magazine.excess() => shelf.magazine.sparse(),
+            _ => None,
+        };
+        match sparse {
+            Some(a) => Some(a / PAGE),
+            None => None,
+        }
+    }
+
+    // The first page of a depot's lowest region without live blocks, which it owes to the pages.
+    pub(crate) fn unused(&self) -> Option<u64>
+        ensures { (x : Site) (p : profile) (q : place) (k : Kept) (w : ℕ) → Stands self.now x p q k → IsTrue (is_depot q) → IsTrue (is_length_of q w) → empty_depot_region q k ≡ option_map (λ f. event.Back q f w) result }
+    {
+        let empty = match &self.kind {
+            Kind::Tiny(shelf) => shelf.magazine.empty(),
+            Kind::Small(shelf) => shelf.magazine.empty(),
+            Kind::Pages(_) | Kind::Large(_) => None,
+        };
+        match empty {
+            Some(a) => Some(a / PAGE),
+            None => None,
+        }
+    }
+
+    // Takes the pages of a region without live blocks back, and keeps its metadata for another one.
+    pub(crate) fn put_back(&mut self, region: AnyRegion)
+        requires { MayPutBack self.old region }
+        ensures { (x : Site) (p : profile) (d : place) (k : Kept) → Stands self.old x p place_is.Pages k → quantum_in region ≡ quantum_of d → IsLacked p d k (run_in region) → Stands self.new x p place_is.Pages (pages_with d (run_in region) k) }
+    {
+        let Kind::Pages(stock) = &mut self.kind else {
+            unreachable!()
+        };
+        match region {
+            AnyRegion::Tiny(region) => match region.strip() {
+                Ok((span, blank)) => {
+                    stock.pages.back(span);
+                    stock.tiny.push_reserved(blank);
+                }
+                Err(_) => unreachable!(),
+            },
+            AnyRegion::Small(region) => match region.strip() {
+                Ok((span, blank)) => {
+                    stock.pages.back(span);
+                    stock.small.push_reserved(blank);
+                }
+                Err(_) => unreachable!(),
+            },
+        }
     }
 }

@@ -2,14 +2,15 @@
 
 ghost use Rattle.mz_rack.specs.BookLaws.{BookLaws};
 
-use mz_book::laws::{growth, numbers};
-use mz_events::laws::{entries, events, holding, places, separation};
+use mz_book::laws::{growth, hands, numbers};
+use mz_events::laws::{entries, events, holding, places, separation, states};
 
 /// They hold, all together.
 pub(crate) fn of_books()
     ensures { BookLaws }
 {
     growth::growth_of_calls();
+    hands::what_is_in_the_hand();
     numbers::numbers_of_keepers();
     numbers::held_places();
     events::when_an_event_fits();
@@ -22,5 +23,7 @@ pub(crate) fn of_books()
     separation::regions_fit_the_space();
     separation::depots_hold_no_unused_region();
     entries::tickets_are_indices();
+    states::spots_stand_once();
+    states::lists_are_by_spot();
     mz_magazine::laws::room_stays_where_bytes_stay_idle();
 }

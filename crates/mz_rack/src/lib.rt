@@ -2,9 +2,11 @@
 //!
 //! - `Keeper`: what stands for a place: the free pages, a magazine, a depot, or large of a zone.
 //! - `Rack`: a zone's requests, served over any book.
-//! - `Lot`: one block with its bytes. `Null` says that no place had room.
+//! - `Lot`: one block with its bytes. `Null` says that no place had room, and `NotLive` that a block is of another zone.
 //! - `way`: the places that serve a caller, and the numbers of their keepers.
 //! - `serve`: how a request goes from place to place.
+//! - `home`: in which place a block lives.
+//! - `free`: how a block ends there, and what its end calls for.
 //! - `shelf`, `stock`, `region`: the parts of a keeper.
 //!
 //! ```text
@@ -21,6 +23,8 @@
 //! (`mz_record` says which these are), and that the lot is the block of its last entry.
 #![tactic(auto)]
 
+mod free;
+mod home;
 mod keeper;
 mod laws;
 mod lot;
@@ -34,5 +38,5 @@ mod tests;
 mod way;
 
 pub use keeper::Keeper;
-pub use lot::{Lot, Null};
+pub use lot::{Lot, NotLive, Null};
 pub use rack::Rack;

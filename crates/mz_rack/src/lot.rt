@@ -34,6 +34,13 @@ impl Lot {
         Lot { zone, span }
     }
 
+    /// Its span.
+    pub(crate) fn into_span(self) -> Span
+        ensures { result ≡ self.span }
+    {
+        self.span
+    }
+
     /// The zone that served it.
     pub fn zone(&self) -> u32
         ensures { result ≡ self.now.zone }
@@ -86,4 +93,11 @@ pub enum Null {
         cache: u64,
         pages: u64,
     },
+}
+
+/// That a block is of another zone: the lot, as it was handed in, and the ticket of the entry that says so.
+#[derive(Drop)]
+pub struct NotLive {
+    pub lot: Lot,
+    pub ticket: u64,
 }

@@ -1,13 +1,16 @@
 //! A zone's requests.
-ghost use Rattle.std.specs.Prelude.{◌≡◌, ◌<◌, ◌≤◌, IfOk};
+ghost use Rattle.std.specs.Prelude.{◌≡◌, ◌<◌, ◌≤◌, length, IfOk};
 ghost use Rattle.std.specs.Int.{IsPowerOfTwo};
 ghost use Rattle.mz_base.specs.Limits.{IsWithinLimits, IsFrom};
 ghost use Rattle.mz_base.specs.Codes.{limits_once};
 ghost use Rattle.mz_rack.specs.Serving.{CanServe, Answers};
+ghost use Rattle.mz_rack.specs.Freeing.{IsFreeable, Frees};
 
+use crate::free::{deny, end_block};
+use crate::home::find_home;
 use crate::keeper::Keeper;
 use crate::laws::of_books;
-use crate::lot::{Lot, Null};
+use crate::lot::{Lot, NotLive, Null};
 use crate::serve::serve;
 use crate::way::find_way;
 use mz_base::{Profile, route, unit, units};
@@ -63,6 +66,38 @@ impl Rack {
         match serve(rt, book, &way, size, al) {
             Ok(span) => Ok(Lot::new(self.zone, span)),
             Err(null) => Err(null),
+        }
+    }
+
+    /// Ends a block of the rack's zone, in the place where it lives. A magazine that is left in excess gives its
+    /// lowest sparse region to the depot, and a region of the depot that is left without live blocks goes back to the
+    /// pages, each at once. `NotLive` comes exactly where the lot is of another zone, and hands it back.
+    ///
+    /// The block is looked for in one place after another. Meanwhile others may move its region, and then
+    /// the search begins again; between rounds it is found in the first.
+    ///
+    /// Until there are large blocks the lot has at most 32,768 bytes.
+    pub fn free<B: Book<Keeper>, R: Wait>(
+        &self,
+        rt: &R,
+        book: &mut B,
+        lot: Lot,
+    ) -> Result<(), NotLive>
+        requires can { CanServe (B.account book.old) self.now.profile self.now.zone 3 }
+        requires lot { IsFreeable (B.account book.old) lot }
+        requires small { length lot.span.bytes ≤ 32768 }
+        ensures { Frees (B.account book.old) self.now.zone lot result (B.account book.new) }
+    {
+        of_books();
+        states_split();
+        moments();
+        let home = find_home(rt, book, &self.profile, &lot);
+        if lot.zone() == self.zone {
+            end_block(rt, book, home, lot.into_span());
+            Ok(())
+        } else {
+            let ticket = deny(book, home, self.zone, &lot);
+            Err(NotLive { lot, ticket })
         }
     }
 }

@@ -1,5 +1,5 @@
 //! The free pages, with the metadata of regions to come.
-ghost use Rattle.std.specs.Prelude.{◌≡◌, ◌/◌, ◌%◌, length, replicate, true, vec_len, IfOk};
+ghost use Rattle.std.specs.Prelude.{◌≡◌, ◌/◌, ◌%◌, ◌≤◌, length, replicate, true, vec_len, vec_capacity, IfOk};
 ghost use Rattle.std.specs.Int.{IsPowerOfTwo};
 ghost use Rattle.mz_base.specs.declared.range.TheConstants.{PAGE};
 
@@ -25,11 +25,11 @@ impl Model for Stock {
 
     ghost coded = { stock_code };
 
-    ghost use Rattle.std.specs.Prelude.{◌≡◌, vec_len};
+    ghost use Rattle.std.specs.Prelude.{◌≡◌, ◌/◌, ◌≤◌, length, vec_len, vec_capacity};
 
     ghost view = { λ s. record { space = s.pages.space; free = s.pages.free; tiny_blanks = vec_len s.tiny; small_blanks = vec_len s.small } };
 
-    ghost invariant = { λ s. s.pages.first ≡ 0 };
+    ghost invariant = { λ s. (s.pages.first ≡ 0) × (length s.pages.free / 64 ≤ vec_capacity s.tiny) × (length s.pages.free / 512 ≤ vec_capacity s.small) };
 }
 
 impl Stock {
@@ -57,7 +57,8 @@ fn blanks<const Q: usize, const N: usize>(
     count: u64,
 ) -> Result<Vec<Blank<Q, N>>, AllocError>
     requires { IsPowerOfTwo Q }
-    ensures { IfOk result (λ bs. vec_len bs ≡ count) }
+    ensures len { IfOk result (λ bs. vec_len bs ≡ count) }
+    ensures room { IfOk result (λ bs. count ≤ vec_capacity bs) }
 {
     let mut blanks = Vec::with_capacity(alloc, count as usize)?;
     for _ in 0..count {

@@ -1,9 +1,9 @@
 -- What comes out of large when its cache is flushed, and goes back to the free pages. This project's own.
-use Rattle.std.specs.Prelude.{◌≡◌, ℕ, ◌≤◌, List, [], ◌∷◌, Option, Some, None, IsTrue}
+use Rattle.std.specs.Prelude.{◌≡◌, ◌≤◌, [], ◌∷◌, Option, Some, None, IsTrue}
 use Rattle.std.specs.List.{list_all}
 use Rattle.mz_base.specs.declared.profile.Profile.{Profile}
 use Rattle.mz_base.specs.Site.{Site}
-use Rattle.mz_base.specs.Space.{Run, run_end, blocks_apart, bytes_of}
+use Rattle.mz_base.specs.Space.{run_end, blocks_apart, bytes_of}
 use Rattle.mz_base.specs.Lists.{has_run}
 use Rattle.mz_ground.specs.Views.{SpanView}
 use Rattle.mz_large.specs.Large.{block_of, run_of_span}
@@ -18,8 +18,7 @@ use Rattle.mz_events.specs.Standing.{Keeping, Stands}
 pub record IsOldest (x : Site) (k : Kept) (s : SpanView) : Type 0 where
   pub space : s.space ≡ x
   pub whole : bytes_of (run_of_span s) ≡ block_of s
-  pub rest : List Run
-  pub first : k.cached ≡ run_of_span s ∷ rest
+  pub first : k.cached ≡ run_of_span s ∷ (without_run (run_of_span s) k).cached
   pub there : IsTrue (has_run k.runs (run_of_span s))
   pub unused : IsTrue (list_all (λ b. blocks_apart b (bytes_of (run_of_span s))) k.live)
 

@@ -13,3 +13,4 @@ pub mod Ending
 pub mod FreeStages
 pub mod BookLaws
 pub mod Flushing
+pub mod Seeking

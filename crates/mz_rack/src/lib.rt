@@ -23,6 +23,7 @@
 //! (`mz_record` says which these are), and that the lot is the block of its last entry.
 #![tactic(auto)]
 
+mod flush;
 mod free;
 mod home;
 mod keeper;

@@ -124,7 +124,7 @@ one_more_than w (TinyDepot z) m h v g dep = eqb-true v 64 g ∙ sym (eqb-true w 
 one_more_than w (SmallDepot z) m h v g dep = eqb-true v 512 g ∙ sym (eqb-true w 512 h)
 one_more_than w _ m h v g dep = absurd (false≢true dep)
 
-length_of_depot : (m : Place) (w : ℕ) → is_magazine m ≡ true → is_length_of m w ≡ true → is_length_of (depot_of m) w ≡ true
+pub length_of_depot : (m : Place) (w : ℕ) → is_magazine m ≡ true → is_length_of m w ≡ true → is_length_of (depot_of m) w ≡ true
 length_of_depot (Tiny z m) w h g = g
 length_of_depot (Small z m) w h g = g
 length_of_depot _ w h g = absurd (false≢true h)

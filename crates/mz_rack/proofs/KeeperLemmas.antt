@@ -12,7 +12,7 @@ use Rattle.std.proofs.lemmas.List.Sums.{sum_by-cons}
 use Rattle.mz_base.specs.declared.profile.Profile.{Profile}
 use Rattle.mz_base.specs.declared.range.TheConstants.{PAGE}
 use Rattle.mz_base.specs.Site.{Site}
-use Rattle.mz_base.specs.Space.{Run, run_at, run_end, block_at, block_end, blocks_apart, same_run}
+use Rattle.mz_base.specs.Space.{Block, Run, run_at, run_end, block_at, block_end, blocks_apart, same_run}
 use Rattle.mz_base.specs.Lists.{add_run, has_run, blocks_in}
 use Rattle.mz_base.specs.Room.{lies_in, has_room, any_has_room}
 use Rattle.mz_ground.specs.Views.{SpanView}
@@ -21,6 +21,8 @@ use Rattle.mz_magazine.specs.Keeping.{IsWholePages, run_from}
 use Rattle.mz_events.specs.declared.place.Place.{Place}
 use Rattle.mz_events.specs.declared.place.Place.TheVariants.{Pages, Tiny, TinyDepot, Small, SmallDepot, Large}
 use Rattle.mz_events.specs.Places.{is_magazine, is_depot, is_large, is_pages, is_size_of, is_length_of, quantum_of, nano_start}
+use Rattle.mz_events.specs.declared.event.Event.TheVariants.{Back}
+use Rattle.mz_events.specs.Duties.{is_unused, empty_depot_region}
 use Rattle.mz_events.specs.State.{Kept}
 use Rattle.mz_events.specs.Room.{wide}
 use Rattle.mz_events.specs.Changes.{with_block, with_region, without_run, region_at}
@@ -376,3 +378,27 @@ adopted Q N x p q k v u t shelf s of_x adopts =
     subst (λ j. StandsForRegions u x p q (with_region (run_at (t.first / PAGE) (Q * N / PAGE)) t.live j)) s.keeps
     (subst (λ w. StandsForRegions w x p q (with_region (run_at (t.first / PAGE) (Q * N / PAGE)) t.live v.kept)) (sym (adopts (whole_pages Q N shelf.shape)))
     (record { kind = s.kind; quantum = s.quantum; length = s.length; space = of_x; room = s.room; keeps = refl }))
+
+-- UNUSED: the lowest region without live blocks
+unused_is : (q : Place) (w a : ℕ) (live : List Block) (rs : List Run) → list_all (is_formed w) rs ≡ true → Some a ≡ option_map (λ r. r.first * PAGE) (find (is_unused live) rs)
+    → option_map (λ (r : Run). Back q r.first r.pages) (find (is_unused live) rs) ≡ Some (Back q (a / PAGE) w)
+unused_is q w a live [] formed h = absurd (none-some a (sym h))
+unused_is q w a live (r ∷ rs) formed h =
+    let parts = and_parts (is_formed w r) (list_all (is_formed w) rs) formed in
+    elim (cases_Bool (is_unused live r)) [
+      | inl y ↦
+          let at : a ≡ r.first * PAGE = same_Some a (r.first * PAGE) (h ∙ ap (option_map address) (cond-true (is_unused live r) (Some r) (find (is_unused live) rs) y)) in
+          let first : r.first ≡ a / PAGE = omega (arith, at) in
+          ap (option_map (λ (t : Run). Back q t.first t.pages)) (cond-true (is_unused live r) (Some r) (find (is_unused live) rs) y)
+          ∙ (ap (λ f. Some (Back q f r.pages)) first ∙ ap (λ n. Some (Back q (a / PAGE) n)) (parts_of w r parts.0).pages)
+      | inr n ↦
+          ap (option_map (λ (t : Run). Back q t.first t.pages)) (cond-false (is_unused live r) (Some r) (find (is_unused live) rs) n)
+          ∙ unused_is q w a live rs parts.1 (h ∙ ap (option_map address) (cond-false (is_unused live r) (Some r) (find (is_unused live) rs) n))
+    ]
+
+pub found_unused : (Q N : ℕ) (x : Site) (p : Profile) (q : Place) (k : Kept) (w a : ℕ) (v : RegionsKept) → IsShelf Q N v → StandsForRegions v x p q k → is_depot q ≡ true → is_length_of q w ≡ true
+    → (IsWholePages Q N → Some a ≡ option_map (λ r. r.first * PAGE) (find (is_unused v.kept.live) v.kept.runs)) → empty_depot_region q k ≡ Some (Back q (a / PAGE) w)
+found_unused Q N x p q k w a v shelf s depot length found =
+    let same = one_length q v.pages w (or_right (is_magazine q) (is_depot q) depot) s.length length in
+    subst (λ j. empty_depot_region q j ≡ Some (Back q (a / PAGE) w)) s.keeps
+    (subst (λ n. empty_depot_region q v.kept ≡ Some (Back q (a / PAGE) n)) same (unused_is q v.pages a v.kept.live v.kept.runs shelf.formed (found (whole_pages Q N shelf.shape))))

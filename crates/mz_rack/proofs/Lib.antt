@@ -17,3 +17,4 @@ mod Looking
 mod Ended
 mod PuttingAside
 mod GivingBack
+mod Dropping

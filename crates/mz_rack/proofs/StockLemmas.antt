@@ -1,32 +1,35 @@
 -- What a run of the free pages is, and what is left of them without it.
 use Rattle.std.proofs.Common.{◌≡◌, ◌⊎◌, ℕ, ◌+◌, ◌-◌, ◌/◌, ◌%◌, ◌<◌, ◌≤◌, ◌==◌, Bool, true, false, not, List, [], ◌∷◌, None, refl, ap, sym, subst, ◌∙◌, inl, inr, arith, get_or}
-use Rattle.std.specs.Prelude.{nat_lt, nat_le, ◌&&◌, ◌||◌, length}
-use Rattle.std.specs.List.{list_any, list_all}
+use Rattle.std.specs.Prelude.{nat_lt, nat_le, ◌&&◌, ◌||◌, length, if◌then◌else◌}
+use Rattle.std.specs.List.{All, list_any, list_all}
+use Rattle.std.proofs.lemmas.List.Elements.{All-head, All-tail}
 use Rattle.std.proofs.Math.Nat.{mul-mod_left}
 use Rattle.std.proofs.lemmas.Bool.{and_parts, and_from, and_left, and_right, cases_Bool, cases_lt, false≢true, false_from_ne_true, eqb-true, eq-eqb, leb-true, le-leb, lt-leb, lt-ltb, le-ltb, or_cases, or_left, or_right, or_from, or_parts, not-true, not_from_false, not_from_true}
 use Rattle.std.proofs.lemmas.List.FromFn.{length-map-range_with_len, get_or-map-range_with_len, fill_by_all}
 use Rattle.mz_base.specs.declared.profile.Profile.{Profile}
 use Rattle.mz_base.specs.declared.range.TheConstants.{PAGE}
 use Rattle.mz_base.specs.Site.{Site}
-use Rattle.mz_base.specs.Space.{Run, run_at, run_end, runs_apart, least_multiple, units_for}
-use Rattle.mz_base.specs.Lists.{add_run}
+use Rattle.mz_base.specs.Space.{Run, run_at, run_end, runs_apart, same_run, least_multiple, units_for}
+use Rattle.mz_base.specs.Lists.{add_run, drop_run, has_run}
 use Rattle.mz_base.specs.Room.{is_free, run_from, page_starts, has_free, is_lowest_free}
 use Rattle.mz_bits.specs.Runs.{with_run, HasRun}
 use Rattle.mz_ground.specs.Views.{SpanView}
 use Rattle.mz_region.specs.Views.{RegionView}
 use Rattle.mz_pages.specs.FreeRuns.{IsFree, HasNoFree, IsLowestFree}
-use Rattle.mz_pages.specs.Pages.{PagesView, first_page, Takes}
+use Rattle.mz_pages.specs.Pages.{PagesView, first_page, page_count, with_pages, Takes}
 use Rattle.mz_events.specs.declared.place.Place.{Place}
-use Rattle.mz_events.specs.declared.place.Place.TheVariants.{Pages, Tiny, Small}
-use Rattle.mz_events.specs.Places.{is_magazine, is_length_of, is_tiny, is_small, quantum_of, nano_start}
+use Rattle.mz_events.specs.declared.place.Place.TheVariants.{Pages, Tiny, TinyDepot, Small, SmallDepot}
+use Rattle.mz_events.specs.Places.{is_magazine, is_depot, is_length_of, is_tiny, is_small, quantum_of, nano_start}
 use Rattle.mz_events.specs.State.{Kept}
-use Rattle.mz_events.specs.Changes.{one_for, pages_without}
+use Rattle.mz_events.specs.Changes.{one_for, pages_without, pages_with}
 use Rattle.mz_events.specs.Separation.{InOrder, has_page}
 use Rattle.mz_events.specs.Standing.{PagesKept, Keeping, Stands, StandsForPages, free_pages}
 use Rattle.mz_rack.specs.declared.keeper.Kind.{Kind}
 use Rattle.mz_rack.specs.declared.keeper.Kind.TheVariants as kind
 use Rattle.mz_rack.specs.Kinds.{keeping_of}
 use Rattle.mz_rack.specs.Answering.{Cut}
+use Rattle.mz_rack.proofs.Steps.{or_elim}
+use Rattle.mz_rack.proofs.Listed.{same_run_is}
 use Rattle.mz_rack.proofs.RoomLemmas.{insert_nil, insert_here, insert_later, any_inserted}
 
 -- the page is in one of these runs
@@ -216,3 +219,112 @@ pub small_place : (q : Place) (w : ℕ) → is_magazine q ≡ true → is_length
 small_place (Tiny z m) w h l e = absurd (e (eqb-true w 64 l))
 small_place (Small z m) w h l e = (refl, refl, refl, eqb-true w 512 l)
 small_place _ w h l e = absurd (false≢true h)
+
+-- BACK: the pages with the run again
+has_filtered : (k : ℕ) (r : Run) (taken : List Run) → has taken k ≡ false → has (drop_run r taken) k ≡ false
+has_filtered k r [] h = refl
+has_filtered k r (x ∷ xs) h =
+    let parts = or_parts (has_page x k) (has xs k) h in
+    elim (cases_Bool (same_run r x)) [
+      | inl y ↦ ap (λ b. has (if not b then x ∷ drop_run r xs else drop_run r xs) k) y ∙ has_filtered k r xs parts.1
+      | inr y ↦ ap (λ b. has (if not b then x ∷ drop_run r xs else drop_run r xs) k) y ∙ or_from (has_page x k) (has (drop_run r xs) k) parts.0 (has_filtered k r xs parts.1)
+    ]
+
+none_above : (k e : ℕ) (xs : List Run) → All (λ (y : Run). e ≤ y.first) xs → k < e → has xs k ≡ false
+none_above k e [] h below = refl
+none_above k e (x ∷ xs) h below =
+    let here = All-head (λ (y : Run). e ≤ y.first) x xs h in
+    or_from (has_page x k) (has xs k) (and_left (nat_le x.first k) (nat_lt k (run_end x)) (lt-leb x.first k (omega (arith, here, below)))) (none_above k e xs (All-tail (λ (y : Run). e ≤ y.first) x xs h) below)
+
+starts_above : (e : ℕ) (xs : List Run) (r : Run) → All (λ (y : Run). e ≤ y.first) xs → has_run xs r ≡ true → e ≤ r.first
+starts_above e [] r h there = absurd (false≢true there)
+starts_above e (x ∷ xs) r h there =
+    or_elim (same_run r x) (has_run xs r)
+    (λ y. let here = All-head (λ (z : Run). e ≤ z.first) x xs h in subst (λ (z : Run). e ≤ z.first) (sym (same_run_is r x y)) here)
+    (λ y. starts_above e xs r (All-tail (λ (z : Run). e ≤ z.first) x xs h) y) there
+
+-- no page of the run is in another one
+dropped_inside : (k : ℕ) (r : Run) (taken : List Run) → InOrder (λ t. t.first) run_end taken → has_run taken r ≡ true → r.first ≤ k → k < run_end r → has (drop_run r taken) k ≡ false
+dropped_inside k r [] order there low high = refl
+dropped_inside k r (x ∷ xs) order there low high =
+    elim (cases_Bool (same_run r x)) [
+      | inl y ↦
+          let is = same_run_is r x y in
+          ap (λ b. has (if not b then x ∷ drop_run r xs else drop_run r xs) k) y ∙ has_filtered k r xs (none_above k (run_end x) xs order.1 (subst (λ (z : Run). k < run_end z) is high))
+      | inr n ↦
+          let rest : has_run xs r ≡ true = sym (ap (λ b. b || has_run xs r) n) ∙ there in
+          let above = starts_above (run_end x) xs r order.1 rest in
+          ap (λ b. has (if not b then x ∷ drop_run r xs else drop_run r xs) k) n
+          ∙ or_from (has_page x k) (has (drop_run r xs) k) (and_right (nat_le x.first k) (nat_lt k (run_end x)) (le-ltb k (run_end x) (omega (arith, above, low)))) (dropped_inside k r xs order.2 rest low high)
+    ]
+
+dropped_outside : (k : ℕ) (r : Run) (taken : List Run) → has_page r k ≡ false → has (drop_run r taken) k ≡ has taken k
+dropped_outside k r [] out = refl
+dropped_outside k r (x ∷ xs) out =
+    elim (cases_Bool (same_run r x)) [
+      | inl y ↦
+          let off : has_page x k ≡ false = subst (λ (z : Run). has_page z k ≡ false) (same_run_is r x y) out in
+          ap (λ b. has (if not b then x ∷ drop_run r xs else drop_run r xs) k) y ∙ (dropped_outside k r xs out ∙ sym (ap (λ b. b || has xs k) off))
+      | inr n ↦ ap (λ b. has (if not b then x ∷ drop_run r xs else drop_run r xs) k) n ∙ ap (λ b. has_page x k || b) (dropped_outside k r xs out)
+    ]
+
+free_again : RunsAreRead → (p : Profile) (taken : List Run) (f w : ℕ) → InOrder (λ t. t.first) run_end taken → has_run taken (run_at f w) ≡ true → f + w ≤ nano_start p → with_run (free_pages p taken) f w true ≡ free_pages p (drop_run (run_at f w) taken)
+free_again law p taken f w order there top =
+    let free = free_pages p taken in
+    let r = run_at f w in
+    let count = count_free p taken in
+    let run = law free f w true (omega (arith, top, count)) in
+    fill_by_all (λ i. not (has (drop_run r taken) i)) (with_run free f w true) (nano_start p) true (run.count ∙ count)
+    (λ k below. elim (in_or_out f w k) [
+      | inl inside ↦ run.inside k true inside.0 inside.1 ∙ sym (not_from_false (has (drop_run r taken) k) (dropped_inside k r taken order there inside.0 inside.1))
+      | inr out ↦ run.outside k true out ∙ free_at p taken k true below ∙ ap not (sym (dropped_outside k r taken (out_of f w k out)))
+    ])
+
+-- the kinds of depots
+pub tiny_depot : (d : Place) → is_depot d ≡ true → 16 ≡ quantum_of d → (is_tiny d ≡ true) × (is_small d ≡ false)
+tiny_depot (TinyDepot z) h q = (refl, refl)
+tiny_depot (SmallDepot z) h q = absurd (other q)
+  where
+    other : ◌≡◌ {A = ℕ} 16 512 → ⊥
+    other e = omega (arith, e)
+tiny_depot _ h q = absurd (false≢true h)
+
+pub small_depot : (d : Place) → is_depot d ≡ true → 512 ≡ quantum_of d → (is_tiny d ≡ false) × (is_small d ≡ true)
+small_depot (SmallDepot z) h q = (refl, refl)
+small_depot (TinyDepot z) h q = absurd (other q)
+  where
+    other : ◌≡◌ {A = ℕ} 512 16 → ⊥
+    other e = omega (arith, e)
+small_depot _ h q = absurd (false≢true h)
+
+-- there is room for the blank, since its region was counted
+pub room_for_blank : (free : List Bool) (n c t m w : ℕ) → length free / w ≤ c → length free ≡ m → n + t ≡ m / w → 1 ≤ t → n < c
+room_for_blank free n c t m w cap count all some =
+    let same : length free / w ≡ m / w = ap (λ x. x / w) count in
+    omega (arith, cap, same, all, some)
+
+module _ (x : Site) (p : Profile) (k : Kept) (b : PagesView) (n m : ℕ) (first : b.first ≡ 0) (st : StandsForPages (stock_of b n m) x p Pages k) where
+  pub pages_count : length b.free ≡ nano_start p
+  pages_count = ap length st.free ∙ count_free p k.taken
+
+  pub pages_below : (w : ℕ) (s : SpanView) (t : RegionView) → s.first ≡ t.first → length s.bytes / PAGE ≡ w → t.first / PAGE + w ≤ nano_start p → s.first / PAGE + length s.bytes / PAGE ≤ b.first + length b.free
+  pages_below w s t at len below =
+      let count = pages_count in
+      let page : s.first / PAGE ≡ t.first / PAGE = ap (λ y. y / PAGE) at in
+      omega (arith, count, page, len, below)
+
+  pub come_back : RunsAreRead → (d : Place) (w : ℕ) (a : PagesView) (i j : ℕ) (s : SpanView) (t : RegionView) → s.first ≡ t.first → length s.bytes / PAGE ≡ w → a ≡ with_pages b (first_page s) (page_count s) true
+      → InOrder (λ r. r.first) run_end k.taken → has_run k.taken (run_at (t.first / PAGE) w) ≡ true → t.first / PAGE + w ≤ nano_start p → one_for (is_tiny d) ≤ k.tiny_regions → one_for (is_small d) ≤ k.small_regions
+      → i ≡ n + one_for (is_tiny d) → j ≡ m + one_for (is_small d) → StandsForPages (stock_of a i j) x p Pages (pages_with d (run_at (t.first / PAGE) w) k)
+  come_back law d w a i j s t at len freed order there below few_tiny few_small more_tiny more_small =
+      let f = t.first / PAGE in
+      let page : s.first / PAGE - b.first ≡ f = let same = ap (λ y. y / PAGE) at in omega (arith, same, first) in
+      let tiny = st.tiny in
+      let small = st.small in
+      record {
+        kind = st.kind;
+        space = ap (λ (y : PagesView). y.space) freed ∙ st.space;
+        free = ap (λ (y : PagesView). y.free) freed ∙ (ap (λ y. with_run b.free y (page_count s) true) page ∙ (ap (λ y. with_run b.free f y true) len ∙ (ap (λ l. with_run l f w true) st.free ∙ free_again law p k.taken f w order there below)));
+        tiny = omega (arith, tiny, more_tiny, few_tiny);
+        small = omega (arith, small, more_small, few_small);
+      }

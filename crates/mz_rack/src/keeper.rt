@@ -316,6 +316,7 @@ impl Keeper {
         requires { MayPutBack self.old region }
         ensures { (x : Site) (p : profile) (d : place) (k : Kept) → Stands self.old x p place_is.Pages k → quantum_in region ≡ quantum_of d → IsLacked p d k (run_in region) → Stands self.new x p place_is.Pages (pages_with d (run_in region) k) }
     {
+        a_run_is_read();
         let Kind::Pages(stock) = &mut self.kind else {
             unreachable!()
         };

@@ -62,7 +62,7 @@ fn blanks<const Q: usize, const N: usize>(
 {
     let mut blanks = Vec::with_capacity(alloc, count as usize)?;
     for _ in 0..count {
-        blanks.push(Blank::make(alloc)?)?;
+        blanks.push_reserved(Blank::make(alloc)?);
     }
     Ok(blanks)
 }

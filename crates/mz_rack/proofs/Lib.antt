@@ -18,3 +18,5 @@ mod Ended
 mod PuttingAside
 mod GivingBack
 mod Dropping
+mod Flushing
+mod LargeLemmas

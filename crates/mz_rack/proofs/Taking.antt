@@ -38,7 +38,7 @@ use Rattle.mz_rack.proofs.Trying.{power_some, size_some}
 use Rattle.mz_rack.proofs.Moving.{deed_at, found_full}
 use Rattle.mz_rack.proofs.Tidying.{tidy_of, live_apart}
 
-some_pages : (q : Place) (w : ℕ) → is_magazine q ≡ true → is_length_of q w ≡ true → 1 ≤ w
+pub some_pages : (q : Place) (w : ℕ) → is_magazine q ≡ true → is_length_of q w ≡ true → 1 ≤ w
 some_pages (Tiny y m) w h l = grind (arith, nat_tests, l)
 some_pages (Small y m) w h l = grind (arith, nat_tests, l)
 some_pages _ w h l = absurd (false≢true h)

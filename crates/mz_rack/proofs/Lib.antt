@@ -20,3 +20,4 @@ mod GivingBack
 mod Dropping
 mod Flushing
 mod LargeLemmas
+mod Seeking

@@ -5,4 +5,4 @@ use Rattle.mz_rack.proofs.flush.+seek.Given as goal
 
 -- each flush leaves one cached run fewer
 abbrev pub decreases-seek : goal.decreases-seek
-decreases-seek g l = length (known (g.B.Book.account l.book) (at_large l.w)).kept.cached
+decreases-seek g l = length (known (g.B.Book.account l.book.now) (at_large l.w.now)).kept.cached

@@ -1,12 +1,12 @@
 -- What tests ask: after each request another one can be made.
-use Rattle.std.proofs.Common.{◌≡◌, true, ℕ, ◌≤◌, [], ap, sym, subst, ◌∙◌, refl, arith}
+use Rattle.std.proofs.Common.{◌≡◌, true, ℕ, [], sym, subst, ◌∙◌, refl, arith}
 use Rattle.std.specs.Prelude.{Result}
 use Rattle.mz_base.specs.declared.profile.Profile.{Profile}
 use Rattle.mz_base.specs.Limits.{IsWithinLimits, IsFrom}
 use Rattle.mz_base.specs.Site.{Site}
 use Rattle.mz_events.specs.State.{is_open, opening}
 use Rattle.mz_events.specs.History.{after_all}
-use Rattle.mz_book.specs.Account.{Account, state_of, HoldsNothing}
+use Rattle.mz_book.specs.Account.{Account}
 use Rattle.mz_book.specs.Plain.{opening_account, Reserves, ActsAs}
 use Rattle.mz_rack.specs.declared.lot.Null.{Null}
 use Rattle.mz_rack.specs.Lots.{LotView}

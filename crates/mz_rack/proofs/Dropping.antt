@@ -1,8 +1,7 @@
 -- A block that has ended is dropped with all that its end calls for.
-use Rattle.std.proofs.Common.{◌≡◌, ℕ, ◌+◌, ◌<◌, ◌≤◌, ◌==◌, true, false, List, [], ◌∷◌, ◌++◌, length, map, refl, ap, sym, subst, ◌∙◌, arith, ⊎_elim, Option, Some, None}
+use Rattle.std.proofs.Common.{◌≡◌, ℕ, ◌+◌, ◌<◌, ◌≤◌, true, false, List, [], ◌∷◌, ◌++◌, length, refl, ap, sym, subst, ◌∙◌, arith, ⊎_elim, Some, None}
 use Rattle.std.specs.Prelude.{◌≢◌, ◌||◌, nat_lt, Ok, Err, if◌then◌else◌}
-use Rattle.std.specs.List.{All, list_all}
-use Rattle.std.specs.Option.{option_map}
+use Rattle.std.specs.List.{list_all}
 use Rattle.std.proofs.lemmas.List.{append-nil}
 use Rattle.std.proofs.lemmas.List.Elements.{All-nil}
 use Rattle.std.proofs.lemmas.Bool.{and_from, cond-true, cond-false}
@@ -10,23 +9,21 @@ use Rattle.mz_base.specs.declared.profile.Profile.{Profile}
 use Rattle.mz_base.specs.Limits.{IsWithinLimits}
 use Rattle.mz_base.specs.Space.{Block}
 use Rattle.mz_events.specs.declared.place.Place.{Place}
-use Rattle.mz_events.specs.declared.event.Event.{Event}
 use Rattle.mz_events.specs.declared.event.Event.TheVariants.{Back, Move, End, No}
 use Rattle.mz_events.specs.declared.entry.Entry.{Entry}
-use Rattle.mz_events.specs.Places.{is_magazine, is_depot, is_large, depot_of, spot_at, spot_of}
+use Rattle.mz_events.specs.Places.{is_magazine, is_depot, is_large, depot_of, spot_of}
 use Rattle.mz_events.specs.State.{opening, is_open}
 use Rattle.mz_events.specs.Duties.{is_that, recirculation, empty_depot_region, death_row}
 use Rattle.mz_events.specs.Effect.{touches}
 use Rattle.mz_events.specs.History.{AreLawful}
 use Rattle.mz_record.specs.Moments.{duty_left, first_some, MeetsDuty, MeetDuties}
 use Rattle.mz_record.specs.Dropped.{IsDropped}
-use Rattle.mz_book.specs.Keepers.{keeper_of, is_among}
-use Rattle.mz_book.specs.Account.{Account, IsOrderly, HoldsNothing, state_of, known, holds_spot, hand, entry_at}
+use Rattle.mz_book.specs.Keepers.{is_among}
+use Rattle.mz_book.specs.Account.{Account, IsOrderly, state_of, known, holds_spot, entry_at}
 use Rattle.mz_book.specs.Calls.{without}
 use Rattle.mz_book.specs.Growth.{Grows}
 use Rattle.mz_rack.specs.declared.way.Way.{Way}
 use Rattle.mz_rack.specs.declared.home.Home.{Home}
-use Rattle.mz_rack.specs.declared.lot.NotLive.{NotLive}
 use Rattle.mz_rack.specs.BookLaws.{BookLaws}
 use Rattle.mz_rack.specs.Lots.{LotView}
 use Rattle.mz_rack.specs.Ways.{IsWay}

@@ -1,32 +1,30 @@
 -- A block ends in its place, or is denied there; and which duty an entry leaves in a history that goes on.
-use Rattle.std.proofs.Common.{◌≡◌, ℕ, zero, suc, ◌+◌, ◌<◌, ◌≤◌, ◌==◌, Bool, true, false, not, List, [], ◌∷◌, ◌++◌, length, map, take, refl, ap, sym, subst, ◌∙◌, arith, inl, inr, ◌⊎◌, ⊎_elim, Option, Some, None, eq-eqb}
-use Rattle.std.specs.Prelude.{◌≢◌, ◌&&◌, ◌||◌, slice_get, if◌then◌else◌}
+use Rattle.std.proofs.Common.{◌≡◌, ℕ, zero, suc, ◌+◌, ◌<◌, ◌≤◌, ◌==◌, true, false, not, List, [], ◌∷◌, ◌++◌, length, map, take, refl, ap, sym, subst, ◌∙◌, arith, inl, inr, ◌⊎◌, ⊎_elim, None}
+use Rattle.std.specs.Prelude.{◌≢◌, ◌&&◌, slice_get}
 use Rattle.std.specs.List.{All, Contains}
 use Rattle.std.proofs.lemmas.Bool.{false≢true, and_parts, cases_Bool, or_left}
 use Rattle.std.proofs.lemmas.List.{append_assoc}
 use Rattle.std.proofs.lemmas.List.Elements.{Contains-append_cases}
 use Rattle.mz_base.specs.declared.profile.Profile.{Profile}
-use Rattle.mz_base.specs.Space.{Block, block_at}
+use Rattle.mz_base.specs.Space.{Block}
 use Rattle.mz_base.specs.Lists.{has_block}
 use Rattle.mz_events.specs.declared.place.Place.{Place}
 use Rattle.mz_events.specs.declared.place.Place.TheVariants.{Pages, Tiny, TinyDepot, Small, SmallDepot, Large, Nano}
 use Rattle.mz_events.specs.declared.event.Event.{Event}
 use Rattle.mz_events.specs.declared.event.Event.TheVariants.{Take, Back, Move, New, End, Size, Full, Dry, No, Open, Shut}
 use Rattle.mz_events.specs.declared.entry.Entry.{Entry}
-use Rattle.mz_events.specs.Places.{is_magazine, is_depot, is_nano, is_pages, zone_of, Spot, keeper_at, same_place, same_spot, spot_at, spot_of, place_of}
-use Rattle.mz_events.specs.State.{Value, State, opening, value_at, is_open}
+use Rattle.mz_events.specs.Places.{is_nano, zone_of, keeper_at, same_place, same_spot, spot_at, spot_of, place_of}
+use Rattle.mz_events.specs.State.{Value, opening, value_at, is_open}
 use Rattle.mz_events.specs.Changes.{without_block}
 use Rattle.mz_events.specs.Duties.{is_that, duty_of_end}
 use Rattle.mz_events.specs.Effect.{touched, touches}
-use Rattle.mz_events.specs.Rules.{Fits}
 use Rattle.mz_events.specs.History.{AreLawful, after_entry, after_all}
-use Rattle.mz_events.specs.Hands.{own}
 use Rattle.mz_events.specs.Leaving.{left_by}
-use Rattle.mz_record.specs.Moments.{state_before, duty_left, first_some, MeetsDuty}
+use Rattle.mz_record.specs.Moments.{state_before, duty_left, first_some}
 use Rattle.mz_book.specs.Keepers.{keeper_of, is_among}
-use Rattle.mz_book.specs.Account.{Account, state_of, known, holds_spot, hand, entry_at}
+use Rattle.mz_book.specs.Account.{Account, state_of, known, holds_spot, entry_at}
 use Rattle.mz_book.specs.Calls.{CanNote, Notes, Releases, without}
-use Rattle.mz_book.specs.Growth.{Grows, GrowsHolding, is_undisturbed}
+use Rattle.mz_book.specs.Growth.{Grows, is_undisturbed}
 use Rattle.mz_rack.specs.BookLaws.{BookLaws}
 use Rattle.mz_rack.specs.FreeStages.{LivesIn, IsLast, HasEnded, IsDenied}
 use Rattle.mz_rack.proofs.Steps.{same_number, same_spot_refl, one_spot, held_at, learn_touched, can_note}

@@ -1,42 +1,39 @@
 -- A depot gives a region without live blocks back to the free pages.
-use Rattle.std.proofs.Common.{◌≡◌, ℕ, ◌+◌, ◌<◌, ◌≤◌, ◌==◌, Bool, true, false, List, [], ◌∷◌, ◌++◌, length, map, filter, find, refl, ap, sym, subst, ◌∙◌, arith, inl, inr, ◌⊎◌, ⊎_elim, Option, Some, None, eq-eqb, eqb-true, zero, suc}
-use Rattle.std.specs.Prelude.{◌&&◌, ◌||◌, nat_lt, not, if◌then◌else◌}
+use Rattle.std.proofs.Common.{◌≡◌, ℕ, ◌<◌, ◌≤◌, ◌==◌, Bool, true, false, List, [], ◌∷◌, ◌++◌, length, filter, find, refl, ap, sym, subst, ◌∙◌, arith, inl, inr, ⊎_elim, Some, None, eq-eqb, eqb-true, zero, suc}
+use Rattle.std.specs.Prelude.{◌||◌, nat_lt, if◌then◌else◌}
 use Rattle.std.specs.List.{Contains, list_any, list_all}
 use Rattle.std.specs.Option.{option_map}
 use Rattle.std.proofs.lemmas.List.{append-nil}
-use Rattle.std.proofs.lemmas.Bool.{false≢true, and_parts, and_from, cases_Bool, cond-true, cond-false, or_left}
-use Rattle.std.proofs.lemmas.Bool.Decides.{nat_tests}
+use Rattle.std.proofs.lemmas.Bool.{false≢true, and_parts, cases_Bool, cond-true, cond-false, or_left}
 use Rattle.mz_base.specs.declared.profile.Profile.{Profile}
-use Rattle.mz_base.specs.Space.{Block, Run, same_block, same_run, run_at, run_end, block_end, blocks_apart, bytes_of}
+use Rattle.mz_base.specs.Space.{Block, Run, same_block, same_run, run_at, block_end, blocks_apart, bytes_of}
 use Rattle.mz_base.specs.Lists.{has_run, has_block, blocks_in}
 use Rattle.mz_base.specs.Room.{lies_in}
 use Rattle.mz_events.specs.declared.place.Place.{Place}
-use Rattle.mz_events.specs.declared.place.Place.TheVariants.{Pages, Tiny, TinyDepot, Small, SmallDepot, Large, Nano}
-use Rattle.mz_events.specs.declared.event.Event.{Event}
+use Rattle.mz_events.specs.declared.place.Place.TheVariants.{Pages, Tiny, TinyDepot, Small, SmallDepot}
 use Rattle.mz_events.specs.declared.event.Event.TheVariants.{Back}
-use Rattle.mz_events.specs.declared.entry.Entry.{Entry}
-use Rattle.mz_events.specs.Places.{is_magazine, is_depot, is_large, is_tiny, is_small, is_length_of, quantum_of, nano_start, depot_of, spot_of, Spot, same_spot, place_of, exists_in}
-use Rattle.mz_events.specs.State.{Kept, Value, State, opening, is_open, placed_runs}
+use Rattle.mz_events.specs.Places.{is_magazine, is_depot, is_tiny, is_small, is_length_of, depot_of, spot_of, Spot, same_spot, place_of}
+use Rattle.mz_events.specs.State.{Kept, Value, opening, is_open, placed_runs}
 use Rattle.mz_events.specs.Changes.{one_for, without_run, pages_with, region_at}
 use Rattle.mz_events.specs.Duties.{is_unused, empty_depot_region}
 use Rattle.mz_events.specs.History.{AreLawful}
 use Rattle.mz_events.specs.Standing.{Keeping, Stands}
 use Rattle.mz_record.specs.Moments.{duty_left, first_some}
-use Rattle.mz_book.specs.Keepers.{keeper_count, keeper_of, is_among, is_held}
+use Rattle.mz_book.specs.Keepers.{keeper_of, is_among}
 use Rattle.mz_book.specs.Account.{Account, state_of, known, holds_spot, entry_at}
-use Rattle.mz_book.specs.Calls.{CanHold, CanNote, Notes, Holds, Releases, CanRelease, without}
+use Rattle.mz_book.specs.Calls.{CanHold, CanNote, Notes, Holds, without}
 use Rattle.mz_book.specs.Growth.{Grows, GrowsHolding}
 use Rattle.mz_rack.specs.declared.way.Way.{Way}
 use Rattle.mz_rack.specs.declared.region.AnyRegion.{AnyRegion}
 use Rattle.mz_rack.specs.BookLaws.{BookLaws}
-use Rattle.mz_rack.specs.Regions.{quantum_in, view_in, run_in}
+use Rattle.mz_rack.specs.Regions.{run_in}
 use Rattle.mz_rack.specs.Ways.{IsWay}
 use Rattle.mz_rack.specs.Asking.{IsTidy, MayYield}
 use Rattle.mz_rack.specs.Answering.{Yielded}
 use Rattle.mz_rack.specs.Ending.{IsLacked, MayPutBack}
 use Rattle.mz_rack.specs.Stages.{at_magazine, at_depot, at_pages, Keeps}
 use Rattle.mz_rack.specs.FreeStages.{OwesBack, Settles, IsLast}
-use Rattle.mz_rack.proofs.Steps.{same_number, same_spot_refl, apart_back, two_spots, held_at, its_place, learn_touched, learn_other, can_note, stands_then, plain_k, plain_d, there_d, below_p, below_test, less_differs, test_below, or_elim, rest_grows}
+use Rattle.mz_rack.proofs.Steps.{same_number, same_spot_refl, apart_back, two_spots, held_at, its_place, learn_touched, learn_other, can_note, stands_then, plain_k, plain_d, there_d, below_p, less_differs, test_below, or_elim, rest_grows}
 use Rattle.mz_rack.proofs.Listed.{region_there, begins_at, all_blocks, same_run_is, is_same_run, same_block_is}
 use Rattle.mz_rack.proofs.Tidying.{place_spot, tidy_of, in_or_apart}
 use Rattle.mz_rack.proofs.Answered.{MomentLaws}

@@ -1,13 +1,12 @@
 -- Looking for a block in one place after another.
-use Rattle.std.proofs.Common.{◌≡◌, ℕ, ◌+◌, ◌<◌, ◌≤◌, ◌==◌, Bool, true, false, List, [], ◌∷◌, ◌++◌, length, refl, ap, sym, subst, ◌∙◌, arith, inl, inr, Option, Some, None, find, eq-eqb, eqb-true}
-use Rattle.std.specs.Prelude.{◌||◌, if◌then◌else◌}
-use Rattle.std.proofs.lemmas.Bool.{false≢true, and_from, or_left, cases_Bool, cond-true, cond-false}
+use Rattle.std.proofs.Common.{◌≡◌, ℕ, ◌+◌, ◌≤◌, ◌==◌, Bool, true, false, List, [], ◌∷◌, ◌++◌, refl, ap, sym, subst, ◌∙◌, arith, inl, inr, Option, Some, None, find, eq-eqb, eqb-true}
+use Rattle.std.specs.Prelude.{◌||◌}
+use Rattle.std.proofs.lemmas.Bool.{and_from, or_left, cases_Bool, cond-true, cond-false}
 use Rattle.mz_base.specs.declared.profile.Profile.{Profile}
 use Rattle.mz_base.specs.Site.{Site}
 use Rattle.mz_base.specs.Space.{Block, block_at, same_block}
 use Rattle.mz_base.specs.Lists.{has_block, size_at}
 use Rattle.mz_events.specs.declared.place.Place.{Place}
-use Rattle.mz_events.specs.declared.entry.Entry.{Entry}
 use Rattle.mz_events.specs.Places.{is_magazine, is_depot, is_nano, zone_of, depot_of, exists_in, spot_of}
 use Rattle.mz_events.specs.State.{Kept, is_open}
 use Rattle.mz_events.specs.Standing.{Keeping, of_regions, of_large, of_pages, of_nothing, Stands}
@@ -15,7 +14,7 @@ use Rattle.mz_book.specs.Keepers.{keeper_of, keeper_spot}
 use Rattle.mz_book.specs.Pairs.{hand_among}
 use Rattle.mz_book.specs.Account.{Account, state_of, known, hand, StandsFor}
 use Rattle.mz_book.specs.Calls.{Holds, Releases, without}
-use Rattle.mz_book.specs.Growth.{Adds, Grows, GrowsHolding}
+use Rattle.mz_book.specs.Growth.{Adds, GrowsHolding}
 use Rattle.mz_rack.specs.declared.way.Way.{Way}
 use Rattle.mz_rack.specs.declared.home.Home.{Home}
 use Rattle.mz_rack.specs.declared.home.Home.TheVariants.{Magazine, Depot}
@@ -24,7 +23,6 @@ use Rattle.mz_rack.specs.Keepings.{lists_of}
 use Rattle.mz_rack.specs.Lots.{LotView}
 use Rattle.mz_rack.specs.Ways.{IsWay}
 use Rattle.mz_rack.specs.Freeing.{block_of}
-use Rattle.mz_rack.specs.Stages.{Keeps}
 use Rattle.mz_rack.specs.FreeStages.{CanLook, PassedBy, IsThere, LivesIn, LivesAt}
 use Rattle.mz_rack.proofs.Steps.{same_number, its_place, keeps_at, calm_at, plain_k, plain_d, there_d}
 

@@ -1,43 +1,43 @@
 -- A magazine in excess gives its lowest sparse region to the depot.
-use Rattle.std.proofs.Common.{◌≡◌, ℕ, ◌+◌, ◌<◌, ◌≤◌, ◌==◌, Bool, true, false, List, [], ◌∷◌, ◌++◌, map, find, refl, ap, sym, subst, ◌∙◌, arith, inl, inr, ◌⊎◌, ⊎_elim, Option, Some, None, eq-eqb}
-use Rattle.std.specs.Prelude.{◌&&◌, ◌||◌, nat_lt, if◌then◌else◌}
-use Rattle.std.specs.List.{All, Contains, list_any, list_all}
+use Rattle.std.proofs.Common.{◌≡◌, ℕ, ◌+◌, ◌<◌, ◌≤◌, ◌==◌, Bool, true, false, List, [], ◌∷◌, ◌++◌, find, refl, ap, sym, subst, ◌∙◌, arith, inl, inr, ⊎_elim, Some, None, eq-eqb}
+use Rattle.std.specs.Prelude.{◌||◌, nat_lt}
+use Rattle.std.specs.List.{All, list_any, list_all}
 use Rattle.std.specs.Option.{option_map}
 use Rattle.std.proofs.lemmas.List.Elements.{All-nil, All-cons}
-use Rattle.std.proofs.lemmas.Bool.{false≢true, and_parts, and_from, cases_Bool, cond-true, cond-false, or_left}
+use Rattle.std.proofs.lemmas.Bool.{and_from, cases_Bool, cond-true, cond-false, or_left}
 use Rattle.mz_base.specs.declared.profile.Profile.{Profile}
 use Rattle.mz_base.specs.Space.{Run, runs_apart}
-use Rattle.mz_base.specs.Lists.{has_run, blocks_in}
+use Rattle.mz_base.specs.Lists.{blocks_in}
 use Rattle.mz_events.specs.declared.place.Place.{Place}
 use Rattle.mz_events.specs.declared.event.Event.{Event}
 use Rattle.mz_events.specs.declared.event.Event.TheVariants.{Back, Move}
 use Rattle.mz_events.specs.declared.entry.Entry.{Entry}
-use Rattle.mz_events.specs.Places.{is_magazine, is_depot, depot_of, spot_of, same_spot}
-use Rattle.mz_events.specs.State.{Kept, Value, State, opening, is_open}
+use Rattle.mz_events.specs.Places.{is_magazine, is_depot, depot_of, spot_of}
+use Rattle.mz_events.specs.State.{Kept, Value, opening, is_open}
 use Rattle.mz_events.specs.Changes.{with_region, without_run, region_at}
 use Rattle.mz_events.specs.Duties.{is_that, is_in_excess, is_sparse, recirculation, empty_depot_region}
-use Rattle.mz_events.specs.Effect.{touched, touches}
+use Rattle.mz_events.specs.Effect.{touches}
 use Rattle.mz_events.specs.History.{AreLawful}
 use Rattle.mz_events.specs.Standing.{Keeping, Stands}
 use Rattle.mz_record.specs.Moments.{duty_left, first_some, MeetsDuty, MeetDuties}
 use Rattle.mz_book.specs.Keepers.{is_among, is_held}
 use Rattle.mz_book.specs.Account.{Account, state_of, known, holds_spot, entry_at}
-use Rattle.mz_book.specs.Calls.{CanNote, Notes, Holds, Releases, without}
+use Rattle.mz_book.specs.Calls.{CanNote, Notes, Holds, without}
 use Rattle.mz_book.specs.Growth.{Grows, GrowsHolding}
 use Rattle.mz_rack.specs.declared.way.Way.{Way}
 use Rattle.mz_rack.specs.declared.region.AnyRegion.{AnyRegion}
 use Rattle.mz_rack.specs.BookLaws.{BookLaws}
-use Rattle.mz_rack.specs.Regions.{quantum_in, view_in, run_in}
+use Rattle.mz_rack.specs.Regions.{view_in, run_in}
 use Rattle.mz_rack.specs.Ways.{IsWay}
 use Rattle.mz_rack.specs.Asking.{IsTidy, MayYield, MayAdopt}
 use Rattle.mz_rack.specs.Answering.{Yielded}
 use Rattle.mz_rack.specs.Stages.{at_magazine, at_depot, Keeps}
 use Rattle.mz_rack.specs.FreeStages.{OwesMove, OwesBack, Settles, IsLast, HasMoved}
-use Rattle.mz_rack.proofs.Steps.{same_number, same_spot_refl, apart_back, two_spots, held_at, its_place, learn_touched, can_note, stands_then, plain_k, plain_d, there_d, one_k, two_k, two_d, has_d, drop_d, below_test, rest_grows}
+use Rattle.mz_rack.proofs.Steps.{same_spot_refl, apart_back, two_spots, held_at, its_place, learn_touched, can_note, stands_then, plain_d, there_d, one_k, two_k, two_d, has_d, drop_d, below_test, rest_grows}
 use Rattle.mz_rack.proofs.Listed.{region_there}
 use Rattle.mz_rack.proofs.Tidying.{quantum_of_depot, tidy_of, runs_of_two}
 use Rattle.mz_rack.proofs.Answered.{MomentLaws}
-use Rattle.mz_rack.proofs.Ended.{is_last, duty_then, move_touches, back_touches, met_first}
+use Rattle.mz_rack.proofs.Ended.{is_last, duty_then, back_touches, met_first}
 
 -- the region that is owed begins at its page
 sparse_there : (live : List _) (m d n e : Place) (f : ℕ) (rs : List Run) → option_map (λ (r : Run). Move r.first m d) (find (is_sparse live) rs) ≡ Some (Move f n e) → list_any (λ r. r.first == f) rs ≡ true

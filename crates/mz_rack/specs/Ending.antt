@@ -1,6 +1,6 @@
 -- What the calls of keepers that end a block, and give regions up, need: each is asked of a keeper that stands for some place. This
 -- project's own.
-use Rattle.std.specs.Prelude.{◌≡◌, ℕ, ◌≤◌, ◌||◌, [], length, IsTrue}
+use Rattle.std.specs.Prelude.{◌≡◌, ◌≤◌, ◌||◌, [], length, IsTrue}
 use Rattle.mz_base.specs.declared.profile.Profile.{Profile}
 use Rattle.mz_base.specs.Site.{Site}
 use Rattle.mz_base.specs.Space.{Run, block_at, run_end}

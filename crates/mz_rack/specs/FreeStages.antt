@@ -1,5 +1,5 @@
 -- Where a free stands between two calls of the book.
-use Rattle.std.specs.Prelude.{◌≡◌, ◌⊎◌, ℕ, ◌<◌, ◌≤◌, false, nat_lt, ◌||◌, List, [], ◌∷◌, ◌++◌, length, Option, Some, None, IsTrue}
+use Rattle.std.specs.Prelude.{◌≡◌, ◌⊎◌, ℕ, ◌<◌, ◌≤◌, false, nat_lt, ◌||◌, List, [], ◌∷◌, ◌++◌, length, Some, None, IsTrue}
 use Rattle.std.specs.List.{All, list_all}
 use Rattle.mz_base.specs.Limits.{IsWithinLimits}
 use Rattle.mz_base.specs.declared.profile.Profile.{Profile}
@@ -7,18 +7,15 @@ use Rattle.mz_base.specs.Space.{Block, block_at}
 use Rattle.mz_base.specs.Lists.{has_block}
 use Rattle.mz_ground.specs.Views.{SpanView}
 use Rattle.mz_events.specs.declared.place.Place.{Place}
-use Rattle.mz_events.specs.declared.event.Event.{Event}
 use Rattle.mz_events.specs.declared.event.Event.TheVariants.{Back, Move, End, No}
 use Rattle.mz_events.specs.declared.entry.Entry.{Entry}
-use Rattle.mz_events.specs.Places.{is_magazine, is_depot, zone_of, depot_of, exists_in, Spot, same_spot, spot_of}
-use Rattle.mz_events.specs.State.{Kept, is_open}
-use Rattle.mz_events.specs.Changes.{without_block}
+use Rattle.mz_events.specs.Places.{is_magazine, is_depot, zone_of, depot_of, exists_in, spot_of}
+use Rattle.mz_events.specs.State.{is_open}
 use Rattle.mz_events.specs.Duties.{is_that, recirculation, empty_depot_region, duty_of_end}
-use Rattle.mz_events.specs.Leaving.{left_by}
-use Rattle.mz_events.specs.Standing.{Keeping, Stands}
+use Rattle.mz_events.specs.Standing.{Keeping}
 use Rattle.mz_record.specs.Moments.{duty_left, MeetDuties}
-use Rattle.mz_record.specs.Dropped.{IsDropped, IsNotOfZone}
-use Rattle.mz_book.specs.Keepers.{keeper_count, keeper_of, keeper_spot, is_among}
+use Rattle.mz_record.specs.Dropped.{IsDropped}
+use Rattle.mz_book.specs.Keepers.{keeper_of, keeper_spot, is_among}
 use Rattle.mz_book.specs.Account.{Account, state_of, known, hand, holds_spot, StandsFor, entry_at}
 use Rattle.mz_book.specs.Calls.{without}
 use Rattle.mz_book.specs.Growth.{Grows, GrowsHolding}
@@ -28,7 +25,7 @@ use Rattle.mz_rack.specs.declared.home.Home.TheVariants.{Magazine, Depot}
 use Rattle.mz_rack.specs.Lots.{LotView}
 use Rattle.mz_rack.specs.Ways.{IsWay}
 use Rattle.mz_rack.specs.Freeing.{block_of}
-use Rattle.mz_rack.specs.Stages.{at_magazine, at_depot, at_pages, Keeps}
+use Rattle.mz_rack.specs.Stages.{at_magazine, at_depot, Keeps}
 
 -- nothing is held, and the block is in the hand, tiny or small, and of an open zone of the profile
 pub record CanLook (s : Account) (p : Profile) (l : LotView) : Type 0 where

@@ -1,4 +1,4 @@
-use Rattle.std.proofs.Common.{◌≡◌, ap, subst, sym, ◌∙◌, arith, length}
+use Rattle.std.proofs.Common.{subst, sym, length}
 use Rattle.mz_events.specs.declared.event.Event.TheVariants.{No}
 use Rattle.mz_book.specs.Calls.{CanNote, Notes}
 use Rattle.mz_rack.specs.Freeing.{block_of}

@@ -1,5 +1,4 @@
-use Rattle.std.proofs.Common.{◌≡◌, ◌≤◌, ap, subst, sym, ◌∙◌, arith}
-use Rattle.mz_events.specs.Places.{depot_of}
+use Rattle.std.proofs.Common.{subst, sym, arith}
 use Rattle.mz_rack.specs.Stages.{Keeps}
 use Rattle.mz_rack.specs.FreeStages.{block_in, LivesIn, HasHome, HasEnded}
 use Rattle.mz_rack.proofs.Answered.{MomentLaws}

@@ -1,8 +1,7 @@
-use Rattle.std.proofs.Common.{◌≡◌, ◌≤◌, ap, subst, sym, ◌∙◌, arith, Some, None}
+use Rattle.std.proofs.Common.{ap, ◌∙◌, arith}
 use Rattle.std.specs.Option.{option_map}
 use Rattle.mz_events.specs.declared.event.Event.TheVariants.{Move}
 use Rattle.mz_events.specs.Places.{depot_of}
-use Rattle.mz_events.specs.Duties.{recirculation}
 use Rattle.mz_book.specs.Account.{known}
 use Rattle.mz_rack.specs.Stages.{at_magazine}
 use Rattle.mz_rack.specs.FreeStages.{block_in}

@@ -1,9 +1,8 @@
-use Rattle.std.proofs.Common.{◌≡◌, ◌≤◌, ◌++◌, ◌∷◌, [], refl, ap, subst, sym, ◌∙◌, arith}
+use Rattle.std.proofs.Common.{refl, ap, arith}
 use Rattle.mz_events.specs.declared.place.Place.TheVariants.{Pages}
 use Rattle.mz_events.specs.Places.{depot_of}
 use Rattle.mz_events.specs.State.{Value}
 use Rattle.mz_book.specs.Account.{known}
-use Rattle.mz_book.specs.Calls.{without}
 use Rattle.mz_rack.specs.Stages.{at_depot, at_pages}
 use Rattle.mz_rack.proofs.Steps.{keeps_at, stands_then, plain_d, there_d, itself, can_release, still_stands, let_down}
 use Rattle.mz_rack.proofs.Answered.{MomentLaws}

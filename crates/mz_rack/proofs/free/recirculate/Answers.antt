@@ -1,4 +1,4 @@
-use Rattle.std.proofs.Common.{◌≡◌, ◌≤◌, ap, subst, sym, ◌∙◌, arith}
+use Rattle.std.proofs.Common.{◌≤◌, ap, arith}
 use Rattle.mz_events.specs.Places.{depot_of}
 use Rattle.mz_events.specs.State.{Value}
 use Rattle.mz_book.specs.Account.{known}

@@ -1,11 +1,10 @@
-use Rattle.std.proofs.Common.{◌≡◌, ◌+◌, ap, subst, sym, ◌∙◌, arith, refl, None, Some}
+use Rattle.std.proofs.Common.{ap, sym, ◌∙◌, Some}
 use Rattle.std.specs.Option.{option_map}
 use Rattle.mz_events.specs.declared.event.Event.TheVariants.{Back}
 use Rattle.mz_events.specs.Places.{depot_of}
 use Rattle.mz_events.specs.Duties.{empty_depot_region}
 use Rattle.mz_book.specs.Account.{known}
 use Rattle.mz_rack.specs.Stages.{at_depot}
-use Rattle.mz_rack.proofs.Steps.{plain_d, there_d, itself, can_release, still_stands, let_down}
 use Rattle.mz_rack.proofs.GivingBack.{length_of_depot, settles_nothing}
 use Rattle.mz_rack.proofs.free.settle.Goals as goal
 

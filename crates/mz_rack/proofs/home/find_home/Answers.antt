@@ -1,4 +1,3 @@
-use Rattle.std.proofs.Common.{◌≡◌, ◌<◌, ap, subst, sym, ◌∙◌}
 use Rattle.mz_rack.specs.Freeing.{block_of}
 use Rattle.mz_rack.proofs.Looking.{none_passed, passed_on, can_look, found_later}
 use Rattle.mz_rack.proofs.home.find_home.Goals as goal

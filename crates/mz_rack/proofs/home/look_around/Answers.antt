@@ -1,4 +1,4 @@
-use Rattle.std.proofs.Common.{◌≡◌, ◌<◌, ap, subst, sym, ◌∙◌}
+use Rattle.std.proofs.Common.{◌<◌, subst, sym, ◌∙◌}
 use Rattle.mz_base.specs.declared.profile.Profile.{Profile}
 use Rattle.mz_book.specs.Keepers.{keeper_count}
 use Rattle.mz_rack.proofs.Steps.{below_k, below_d}

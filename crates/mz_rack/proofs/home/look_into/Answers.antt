@@ -1,4 +1,4 @@
-use Rattle.std.proofs.Common.{◌≡◌, ap, subst, sym, ◌∙◌}
+use Rattle.std.proofs.Common.{ap, sym, ◌∙◌}
 use Rattle.mz_base.specs.Lists.{size_at}
 use Rattle.mz_rack.specs.Keepings.{lists_of}
 use Rattle.mz_rack.proofs.Looking.{is_there, passed_by}

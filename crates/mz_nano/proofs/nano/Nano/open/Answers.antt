@@ -1,4 +1,4 @@
-use Rattle.std.proofs.Common.{◌≡◌, ℕ, ◌/◌, ◌∙◌, sym, ap, arith}
+use Rattle.std.proofs.Common.{◌/◌, ◌∙◌, sym, ap, arith}
 use Rattle.mz_nano.specs.declared.view.Geometry.{Geometry}
 use Rattle.mz_nano.proofs.OpenLemmas.{opens}
 use Rattle.mz_nano.proofs.AllLemmas.{new_all}

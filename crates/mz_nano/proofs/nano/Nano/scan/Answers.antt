@@ -5,7 +5,6 @@ use Rattle.mz_nanoword.specs.Words.{word_of}
 use Rattle.mz_nano.specs.declared.view.Geometry.{Geometry}
 use Rattle.mz_nano.specs.declared.view.View.{View}
 use Rattle.mz_nano.specs.StepEffects.{load, IsSound}
-use Rattle.mz_nano.specs.declared.view.Load.{Load}
 use Rattle.mz_nano.specs.CallEffects.{IsUsable, InOrder}
 use Rattle.mz_nano.proofs.ScanLemmas.{loaded_more, scan_more, none_usable}
 use Rattle.mz_nano.proofs.nano.Nano.scan.Goals as goal

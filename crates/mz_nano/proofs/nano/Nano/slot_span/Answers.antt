@@ -1,4 +1,4 @@
-use Rattle.std.proofs.Common.{ℕ, ◌+◌, ◌*◌, ◌<◌, ◌≤◌, arith, mul-le-mul_left}
+use Rattle.std.proofs.Common.{ℕ, ◌+◌, ◌*◌, ◌≤◌, arith, mul-le-mul_left}
 use Rattle.mz_nano.specs.Rule.{slots}
 use Rattle.mz_nano.proofs.ClaimSteps.{slots_whole}
 use Rattle.mz_nano.proofs.nano.Nano.slot_span.Goals as goal

@@ -1,7 +1,5 @@
-use Rattle.std.proofs.Common.{◌≡◌, ◌≤◌, ◌<◌, ◌/◌, ◌+◌, ℕ, true, vec_len, ap, sym, subst, ◌∙◌, arith}
+use Rattle.std.proofs.Common.{◌≡◌, ◌≤◌, ◌/◌, ◌+◌, ℕ, vec_len, ap, sym, subst, ◌∙◌, arith}
 use Rattle.mz_base.specs.declared.range.TheConstants.{PAGE}
-use Rattle.mz_base.specs.Space.{run_end}
-use Rattle.mz_base.specs.Lists.{has_run}
 use Rattle.mz_events.specs.declared.place.Place.TheVariants.{Pages}
 use Rattle.mz_events.specs.Places.{quantum_of, nano_start}
 use Rattle.mz_events.specs.Changes.{one_for, pages_with}

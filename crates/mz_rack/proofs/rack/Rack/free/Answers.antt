@@ -1,6 +1,5 @@
-use Rattle.std.proofs.Common.{◌≡◌, ap, subst, sym, ◌∙◌, Ok}
+use Rattle.std.proofs.Common.{subst, sym, ◌∙◌}
 use Rattle.mz_rack.specs.FreeStages.{block_in, IsOver}
-use Rattle.mz_rack.specs.Freeing.{block_of, Frees}
 use Rattle.mz_rack.proofs.Dropping.{can_look_for, frees, denies}
 use Rattle.mz_rack.proofs.rack.Rack.free.Goals as goal
 

@@ -1,7 +1,8 @@
 -- The pages are searched, with as many flushes as it takes.
-use Rattle.std.proofs.Common.{◌≡◌, ℕ, ◌+◌, ◌-◌, ◌*◌, ◌≤◌, true, List, [], ◌∷◌, ◌++◌, length, refl, ap, sym, subst, ◌∙◌, arith}
+use Rattle.std.proofs.Common.{◌≡◌, ℕ, ◌+◌, ◌-◌, ◌*◌, ◌≤◌, true, List, [], ◌∷◌, ◌++◌, length, refl, ap, sym, subst, ◌∙◌, arith, inl, inr}
 use Rattle.std.specs.Prelude.{Result, Ok, Err}
 use Rattle.std.proofs.lemmas.List.{append_assoc}
+use Rattle.std.proofs.lemmas.List.Elements.{All-nil, All-cons}
 use Rattle.mz_base.specs.Space.{run_end}
 use Rattle.mz_events.specs.declared.place.Place.TheVariants.{Pages, Large}
 use Rattle.mz_events.specs.declared.event.Event.TheVariants.{Back}
@@ -19,7 +20,7 @@ use Rattle.mz_rack.specs.BookLaws.{BookLaws}
 use Rattle.mz_rack.specs.Ways.{IsWay}
 use Rattle.mz_rack.specs.Asking.{MayTake}
 use Rattle.mz_rack.specs.Answering.{IsCut}
-use Rattle.mz_rack.specs.Stages.{at_large, at_pages, Keeps}
+use Rattle.mz_rack.specs.Stages.{at_large, at_pages, Keeps, IsFlush}
 use Rattle.mz_rack.specs.Seeking.{CanSeek, IsFlushed, IsEmpty, Sought, dry_at, last_dry}
 
 module _ (L : BookLaws) (w : Way) (s : Account) (k : CanSeek s w) where
@@ -41,7 +42,7 @@ module _ (L : BookLaws) (w : Way) (s : Account) (k : CanSeek s w) where
 
   -- a region is found at once
   pub found : (r : AnyRegion) → IsCut s.site s.profile w.magazine (known s at_pages).kept w.pages r → Sought s w (Ok r) s
-  found r cut = record { flushes = []; since = L.nothing s; few = omega arith; can = k; same_k = refl; same_d = refl; are = λ h later lawful goes. tt; is = cut }
+  found r cut = record { flushes = []; since = L.nothing s; each = All-nil (λ (e : Entry). IsFlush w e.event); few = omega arith; can = k; same_k = refl; same_d = refl; are = λ h later lawful goes. tt; is = cut }
 
   -- the pages are dry, and nothing is cached
   pub found_none : (i : ℕ) (t : Account) → IsEmpty s w i t → Sought s w (Err i) t
@@ -50,6 +51,7 @@ module _ (L : BookLaws) (w : Way) (s : Account) (k : CanSeek s w) where
       record {
         flushes = [];
         since = e.since;
+        each = All-nil (λ (x : Entry). IsFlush w x.event);
         few = omega arith;
         can = record { way = subst (λ p. IsWay p w) (sym adds.same.profile) k.way; zone_open = adds.zones w.zone ∙ k.zone_open; all = e.all };
         same_k = e.same_k;
@@ -68,6 +70,8 @@ module _ (L : BookLaws) (w : Way) (s : Account) (k : CanSeek s w) where
       record {
         flushes = dry_at f.i s.caller w ∷ entry_at f.j s.caller (Back (Large w.zone) f.f f.n) ∷ y.flushes;
         since = subst (λ c. GrowsHolding s (dry_at f.i s.caller w ∷ entry_at f.j s.caller (Back (Large w.zone) f.f f.n) ∷ (y.flushes ++ last_dry c w got)) 0 t) f.since.grows.adds.same.caller both;
+        each = All-cons (λ (e : Entry). IsFlush w e.event) (dry_at f.i s.caller w) (entry_at f.j s.caller (Back (Large w.zone) f.f f.n) ∷ y.flushes) (inl refl)
+            (All-cons (λ (e : Entry). IsFlush w e.event) (entry_at f.j s.caller (Back (Large w.zone) f.f f.n)) y.flushes (inr (f.f, f.n, refl)) y.each);
         few = omega arith;
         can = y.can;
         same_k = y.same_k ∙ f.same_k;

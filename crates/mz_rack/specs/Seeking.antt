@@ -1,5 +1,6 @@
 -- Where the search for free pages stands between two calls of the book.
 use Rattle.std.specs.Prelude.{◌≡◌, ℕ, ◌*◌, ◌≤◌, List, [], ◌∷◌, ◌++◌, length, Result, Ok, Err, IsTrue}
+use Rattle.std.specs.List.{All}
 use Rattle.mz_base.specs.Space.{run_at}
 use Rattle.mz_events.specs.declared.place.Place.TheVariants.{Pages, Large}
 use Rattle.mz_events.specs.declared.event.Event.TheVariants.{Back, Dry}
@@ -17,7 +18,7 @@ use Rattle.mz_rack.specs.declared.region.AnyRegion.{AnyRegion}
 use Rattle.mz_rack.specs.Regions.{run_in}
 use Rattle.mz_rack.specs.Ways.{IsWay}
 use Rattle.mz_rack.specs.Answering.{IsCut}
-use Rattle.mz_rack.specs.Stages.{at_magazine, at_depot, at_large, at_pages, Keeps, AllHeld, IsDried}
+use Rattle.mz_rack.specs.Stages.{at_magazine, at_depot, at_large, at_pages, Keeps, AllHeld, IsDried, IsFlush}
 
 -- all four are held, and the way's zone is open
 pub record CanSeek (s : Account) (w : Way) : Type 0 where
@@ -69,6 +70,7 @@ IsFound t w (Err i) = IsDried t w i
 pub record Sought (s : Account) (w : Way) (got : Result AnyRegion ℕ) (t : Account) : Type 0 where
   pub flushes : List Entry
   pub since : GrowsHolding s (flushes ++ last_dry s.caller w got) 0 t
+  pub each : All (λ e. IsFlush w e.event) flushes
   pub few : length flushes ≤ 2 * length (known s (at_large w)).kept.cached
   pub can : CanSeek t w
   pub same_k : known t (at_magazine w) ≡ known s (at_magazine w)

@@ -1,6 +1,6 @@
 -- The values that an event leaves, spot by spot.
 use Rattle.std.proofs.Common.{◌≡◌, ℕ, ◌+◌, Bool, true, false, cond, List, [], ◌∷◌, ◌++◌, refl, sym, ap, ◌∙◌, subst, inl, inr, max}
-use Rattle.std.specs.Prelude.{◌&&◌, find, not, Option, Some, None, Result, Ok, Err, OnOk, IsTrue}
+use Rattle.std.specs.Prelude.{◌&&◌, find, not, Option, Some, None, Result, Ok, Err, IfOk, IsTrue}
 use Rattle.std.proofs.lemmas.Bool.{cases_Bool, cond-true, cond-false, false≢true, true≢false}
 use Rattle.mz_base.specs.declared.profile.Profile.{Profile}
 use Rattle.mz_base.specs.Space.{Block, Run, block_at, run_at}
@@ -25,9 +25,9 @@ use Rattle.mz_history.specs.BookedStates.{state_with}
 use Rattle.mz_history.proofs.SpotLemmas.{look_up-write, same_spot-true, same_spot-refl}
 use Rattle.mz_history.proofs.SoundLemmas.{each_written, sound_after}
 
-pub on_ok : {A E : Type 0} (r : Result A E) (P Q : Type 0) → (P → Q) → OnOk r P → OnOk r Q
-on_ok (Ok a) P Q f h = f h
-on_ok (Err e) P Q f h = tt
+if_ok : {A E : Type 0} (r : Result A E) (P Q : A → Type 0) → ((a : A) → P a → Q a) → IfOk r P → IfOk r Q
+if_ok (Ok a) P Q f h = f a h
+if_ok (Err e) P Q f h = tt
 
 -- ---- one spot, and two
 
@@ -307,35 +307,35 @@ LawOfLeaving = (s : State) (c : ℕ) → LeavesByEvent s c
 abbrev pub Leaves : Profile → ℕ → Event → List (Spot × Value) → List (Spot × Value) → Type 0
 Leaves p c e old new = (s : State) → s.values ≡ old → new ≡ values_after p s c e
 
-module _ {A E : Type 0} (p : Profile) (c : ℕ) (e : Event) (law : LawOfLeaving) (old new : List (Spot × Value)) (r : Result A E) where
-  pub new_ok : (k : Place) (a n al : ℕ) → e ≡ New k a n al → OnOk r (new ≡ write old (spot_at k a) (left_by c e (with_block (block_at a n) (look_up old (spot_at k a)).kept) None)) → OnOk r (Leaves p c e old new)
-  new_ok k a n al is wrote = on_ok r (new ≡ write old (spot_at k a) (left_by c e (with_block (block_at a n) (look_up old (spot_at k a)).kept) None)) (Leaves p c e old new)
-      (λ was s same. of_it (λ d. new ≡ write old (spot_at k a) (left_by c d (with_block (block_at a n) (look_up old (spot_at k a)).kept) None) → new ≡ values_after p s c d) e (New k a n al) is (λ v. after_new p s c (law s c) old new same k a n al v) was) wrote
+module _ {E : Type 0} (p : Profile) (c : ℕ) (e : Event) (law : LawOfLeaving) (old : List (Spot × Value)) (r : Result (List (Spot × Value)) E) where
+  pub new_ok : (k : Place) (a n al : ℕ) → e ≡ New k a n al → IfOk r (λ new. new ≡ write old (spot_at k a) (left_by c e (with_block (block_at a n) (look_up old (spot_at k a)).kept) None)) → IfOk r (Leaves p c e old)
+  new_ok k a n al is wrote = if_ok r (λ new. new ≡ write old (spot_at k a) (left_by c e (with_block (block_at a n) (look_up old (spot_at k a)).kept) None)) (Leaves p c e old)
+      (λ new was s same. of_it (λ d. new ≡ write old (spot_at k a) (left_by c d (with_block (block_at a n) (look_up old (spot_at k a)).kept) None) → new ≡ values_after p s c d) e (New k a n al) is (λ v. after_new p s c (law s c) old new same k a n al v) was) wrote
 
-  pub end_ok : (k : Place) (a n : ℕ) → e ≡ End k a n → OnOk r (new ≡ write old (spot_at k a) (left_by c e (without_block k (block_at a n) (look_up old (spot_at k a)).kept) (duty_of_end k (without_block k (block_at a n) (look_up old (spot_at k a)).kept)))) → OnOk r (Leaves p c e old new)
-  end_ok k a n is wrote = on_ok r (new ≡ write old (spot_at k a) (left_by c e (without_block k (block_at a n) (look_up old (spot_at k a)).kept) (duty_of_end k (without_block k (block_at a n) (look_up old (spot_at k a)).kept)))) (Leaves p c e old new)
-      (λ was s same. of_it (λ d. new ≡ write old (spot_at k a) (left_by c d (without_block k (block_at a n) (look_up old (spot_at k a)).kept) (duty_of_end k (without_block k (block_at a n) (look_up old (spot_at k a)).kept))) → new ≡ values_after p s c d) e (End k a n) is (λ v. after_end p s c (law s c) old new same k a n v) was) wrote
+  pub end_ok : (k : Place) (a n : ℕ) → e ≡ End k a n → IfOk r (λ new. new ≡ write old (spot_at k a) (left_by c e (without_block k (block_at a n) (look_up old (spot_at k a)).kept) (duty_of_end k (without_block k (block_at a n) (look_up old (spot_at k a)).kept)))) → IfOk r (Leaves p c e old)
+  end_ok k a n is wrote = if_ok r (λ new. new ≡ write old (spot_at k a) (left_by c e (without_block k (block_at a n) (look_up old (spot_at k a)).kept) (duty_of_end k (without_block k (block_at a n) (look_up old (spot_at k a)).kept)))) (Leaves p c e old)
+      (λ new was s same. of_it (λ d. new ≡ write old (spot_at k a) (left_by c d (without_block k (block_at a n) (look_up old (spot_at k a)).kept) (duty_of_end k (without_block k (block_at a n) (look_up old (spot_at k a)).kept))) → new ≡ values_after p s c d) e (End k a n) is (λ v. after_end p s c (law s c) old new same k a n v) was) wrote
 
-  pub size_ok : (k : Place) (a n m : ℕ) → e ≡ Size k a n m → OnOk r (new ≡ write old (spot_at k a) (left_by c e (resized (block_at a n) (block_at a m) (look_up old (spot_at k a)).kept) None)) → OnOk r (Leaves p c e old new)
-  size_ok k a n m is wrote = on_ok r (new ≡ write old (spot_at k a) (left_by c e (resized (block_at a n) (block_at a m) (look_up old (spot_at k a)).kept) None)) (Leaves p c e old new)
-      (λ was s same. of_it (λ d. new ≡ write old (spot_at k a) (left_by c d (resized (block_at a n) (block_at a m) (look_up old (spot_at k a)).kept) None) → new ≡ values_after p s c d) e (Size k a n m) is (λ v. after_size p s c (law s c) old new same k a n m v) was) wrote
+  pub size_ok : (k : Place) (a n m : ℕ) → e ≡ Size k a n m → IfOk r (λ new. new ≡ write old (spot_at k a) (left_by c e (resized (block_at a n) (block_at a m) (look_up old (spot_at k a)).kept) None)) → IfOk r (Leaves p c e old)
+  size_ok k a n m is wrote = if_ok r (λ new. new ≡ write old (spot_at k a) (left_by c e (resized (block_at a n) (block_at a m) (look_up old (spot_at k a)).kept) None)) (Leaves p c e old)
+      (λ new was s same. of_it (λ d. new ≡ write old (spot_at k a) (left_by c d (resized (block_at a n) (block_at a m) (look_up old (spot_at k a)).kept) None) → new ≡ values_after p s c d) e (Size k a n m) is (λ v. after_size p s c (law s c) old new same k a n m v) was) wrote
 
-  pub full_ok : (k : Place) (n al : ℕ) → e ≡ Full k n al → OnOk r (new ≡ write old (spot_of k) (left_by c e (look_up old (spot_of k)).kept None)) → OnOk r (Leaves p c e old new)
-  full_ok k n al is wrote = on_ok r (new ≡ write old (spot_of k) (left_by c e (look_up old (spot_of k)).kept None)) (Leaves p c e old new)
-      (λ was s same. of_it (λ d. new ≡ write old (spot_of k) (left_by c d (look_up old (spot_of k)).kept None) → new ≡ values_after p s c d) e (Full k n al) is (λ v. after_full p s c (law s c) old new same k n al v) was) wrote
+  pub full_ok : (k : Place) (n al : ℕ) → e ≡ Full k n al → IfOk r (λ new. new ≡ write old (spot_of k) (left_by c e (look_up old (spot_of k)).kept None)) → IfOk r (Leaves p c e old)
+  full_ok k n al is wrote = if_ok r (λ new. new ≡ write old (spot_of k) (left_by c e (look_up old (spot_of k)).kept None)) (Leaves p c e old)
+      (λ new was s same. of_it (λ d. new ≡ write old (spot_of k) (left_by c d (look_up old (spot_of k)).kept None) → new ≡ values_after p s c d) e (Full k n al) is (λ v. after_full p s c (law s c) old new same k n al v) was) wrote
 
-  pub no_ok : (k : Place) (z a n : ℕ) (j : Spot) → e ≡ No k z a n → j ≡ spot_at k a → OnOk r (new ≡ write old j (left_by c e (look_up old j).kept None)) → OnOk r (Leaves p c e old new)
-  no_ok k z a n j is h0 wrote = on_ok r (new ≡ write old j (left_by c e (look_up old j).kept None)) (Leaves p c e old new)
-      (λ was s same. of_it (λ d. j ≡ spot_at k a → new ≡ write old j (left_by c d (look_up old j).kept None) → new ≡ values_after p s c d) e (No k z a n) is (λ g0 v. after_no p s c (law s c) old new same k z a n j g0 v) h0 was) wrote
+  pub no_ok : (k : Place) (z a n : ℕ) (j : Spot) → e ≡ No k z a n → j ≡ spot_at k a → IfOk r (λ new. new ≡ write old j (left_by c e (look_up old j).kept None)) → IfOk r (Leaves p c e old)
+  no_ok k z a n j is h0 wrote = if_ok r (λ new. new ≡ write old j (left_by c e (look_up old j).kept None)) (Leaves p c e old)
+      (λ new was s same. of_it (λ d. j ≡ spot_at k a → new ≡ write old j (left_by c d (look_up old j).kept None) → new ≡ values_after p s c d) e (No k z a n) is (λ g0 v. after_no p s c (law s c) old new same k z a n j g0 v) h0 was) wrote
 
-  pub dry_ok : (z w al : ℕ) (js : List Spot) (duty : Option Event) → e ≡ Dry z w al → js ≡ touched p e → duty ≡ back_of_oldest (Large z) (look_up old (spot_of (Large z))).kept.cached → OnOk r (new ≡ write_all (λ j. left_by c e (look_up old j).kept duty) js old) → OnOk r (Leaves p c e old new)
-  dry_ok z w al js duty is h0 h1 wrote = on_ok r (new ≡ write_all (λ j. left_by c e (look_up old j).kept duty) js old) (Leaves p c e old new)
-      (λ was s same. of_it (λ d. js ≡ touched p d → duty ≡ back_of_oldest (Large z) (look_up old (spot_of (Large z))).kept.cached → new ≡ write_all (λ j. left_by c d (look_up old j).kept duty) js old → new ≡ values_after p s c d) e (Dry z w al) is (λ g0 g1 v. after_dry p s c (law s c) old new same z w al js duty g0 g1 v) h0 h1 was) wrote
+  pub dry_ok : (z w al : ℕ) (js : List Spot) (duty : Option Event) → e ≡ Dry z w al → js ≡ touched p e → duty ≡ back_of_oldest (Large z) (look_up old (spot_of (Large z))).kept.cached → IfOk r (λ new. new ≡ write_all (λ j. left_by c e (look_up old j).kept duty) js old) → IfOk r (Leaves p c e old)
+  dry_ok z w al js duty is h0 h1 wrote = if_ok r (λ new. new ≡ write_all (λ j. left_by c e (look_up old j).kept duty) js old) (Leaves p c e old)
+      (λ new was s same. of_it (λ d. js ≡ touched p d → duty ≡ back_of_oldest (Large z) (look_up old (spot_of (Large z))).kept.cached → new ≡ write_all (λ j. left_by c d (look_up old j).kept duty) js old → new ≡ values_after p s c d) e (Dry z w al) is (λ g0 g1 v. after_dry p s c (law s c) old new same z w al js duty g0 g1 v) h0 h1 was) wrote
 
-  pub open_ok : (z : ℕ) (js : List Spot) → e ≡ Open z → js ≡ touched p e → OnOk r (new ≡ write_all (λ j. left_by c e (look_up old j).kept None) js old) → OnOk r (Leaves p c e old new)
-  open_ok z js is h0 wrote = on_ok r (new ≡ write_all (λ j. left_by c e (look_up old j).kept None) js old) (Leaves p c e old new)
-      (λ was s same. of_it (λ d. js ≡ touched p d → new ≡ write_all (λ j. left_by c d (look_up old j).kept None) js old → new ≡ values_after p s c d) e (Open z) is (λ g0 v. after_open p s c (law s c) old new same z js g0 v) h0 was) wrote
+  pub open_ok : (z : ℕ) (js : List Spot) → e ≡ Open z → js ≡ touched p e → IfOk r (λ new. new ≡ write_all (λ j. left_by c e (look_up old j).kept None) js old) → IfOk r (Leaves p c e old)
+  open_ok z js is h0 wrote = if_ok r (λ new. new ≡ write_all (λ j. left_by c e (look_up old j).kept None) js old) (Leaves p c e old)
+      (λ new was s same. of_it (λ d. js ≡ touched p d → new ≡ write_all (λ j. left_by c d (look_up old j).kept None) js old → new ≡ values_after p s c d) e (Open z) is (λ g0 v. after_open p s c (law s c) old new same z js g0 v) h0 was) wrote
 
-  pub shut_ok : (z : ℕ) (js : List Spot) → e ≡ Shut z → js ≡ touched p e → OnOk r (new ≡ write_all (λ j. left_by c e (look_up old j).kept None) js old) → OnOk r (Leaves p c e old new)
-  shut_ok z js is h0 wrote = on_ok r (new ≡ write_all (λ j. left_by c e (look_up old j).kept None) js old) (Leaves p c e old new)
-      (λ was s same. of_it (λ d. js ≡ touched p d → new ≡ write_all (λ j. left_by c d (look_up old j).kept None) js old → new ≡ values_after p s c d) e (Shut z) is (λ g0 v. after_shut p s c (law s c) old new same z js g0 v) h0 was) wrote
+  pub shut_ok : (z : ℕ) (js : List Spot) → e ≡ Shut z → js ≡ touched p e → IfOk r (λ new. new ≡ write_all (λ j. left_by c e (look_up old j).kept None) js old) → IfOk r (Leaves p c e old)
+  shut_ok z js is h0 wrote = if_ok r (λ new. new ≡ write_all (λ j. left_by c e (look_up old j).kept None) js old) (Leaves p c e old)
+      (λ new was s same. of_it (λ d. js ≡ touched p d → new ≡ write_all (λ j. left_by c d (look_up old j).kept None) js old → new ≡ values_after p s c d) e (Shut z) is (λ g0 v. after_shut p s c (law s c) old new same z js g0 v) h0 was) wrote

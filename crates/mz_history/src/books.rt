@@ -17,8 +17,7 @@ use mz_events::laws::locality;
 use mz_events::laws::separation::last_freed_lies_in_its_magazine;
 use mz_events::{Event, Place};
 use mz_holding::{FreePages, Holding, NanoPage};
-use mz_spots::slots::{copies, find, owe_nothing};
-use mz_spots::{Done, Key, Slot};
+use mz_spots::{Done, Key, Slots};
 use std::alloc::{AllocError, Global};
 use std::marker::Model;
 
@@ -28,7 +27,7 @@ pub(crate) struct Books {
     pub(crate) alloc: Global,
     pub(crate) profile: Profile,
     // The spots that entries touched, in the order in which they first did.
-    pub(crate) slots: Vec<Slot>,
+    pub(crate) slots: Slots,
     // The open zones, the last that opened first.
     pub(crate) zones: Vec<u32>,
     pub(crate) entries: u64,
@@ -48,9 +47,9 @@ impl Model for Books {
 
     ghost Value = { Booked };
 
-    ghost view = { λ b. record { profile = b.profile; state = state_with b.slots.items b.zones.items b.entries b.greatest } };
+    ghost view = { λ b. record { profile = b.profile; state = state_with b.slots b.zones.items b.entries b.greatest } };
 
-    ghost invariant = { λ b. IsBooked b.profile (state_with b.slots.items b.zones.items b.entries b.greatest) × (b.no_pages ≡ nothing_kept) × (b.no_runs ≡ nothing_kept) × (b.no_blocks ≡ nothing_kept) };
+    ghost invariant = { λ b. IsBooked b.profile (state_with b.slots b.zones.items b.entries b.greatest) × (b.no_pages ≡ nothing_kept) × (b.no_runs ≡ nothing_kept) × (b.no_blocks ≡ nothing_kept) };
 }
 
 impl Books {
@@ -64,7 +63,7 @@ impl Books {
         Ok(Books {
             alloc,
             profile: *p,
-            slots: Vec::new(alloc),
+            slots: Slots::new(alloc),
             zones,
             entries: 0,
             greatest: 0,
@@ -79,7 +78,7 @@ impl Books {
         ensures { IfOk result (λ b. b ≡ self.now) }
     {
         let alloc = self.alloc;
-        let slots = copies(alloc, &self.slots)?;
+        let slots = self.slots.copy(alloc)?;
         Ok(Books {
             alloc,
             profile: self.profile,
@@ -99,7 +98,7 @@ impl Books {
         requires nano { is_nano k ≡ false }
         ensures { result.now ≡ kept_at self.now.state (spot_of k) }
     {
-        match find(&self.slots, Key::Keeper(k)) {
+        match self.slots.find(Key::Keeper(k)) {
             Some(slot) => slot.holding(),
             None => &self.no_runs,
         }
@@ -135,7 +134,7 @@ impl Books {
     pub(crate) fn free(&self) -> &FreePages
         ensures { result.now ≡ kept_at self.now.state (spot_of free_pages) }
     {
-        match find(&self.slots, Key::Keeper(Place::Pages)) {
+        match self.slots.find(Key::Keeper(Place::Pages)) {
             Some(slot) => slot.free(),
             None => &self.no_pages,
         }
@@ -145,7 +144,7 @@ impl Books {
     pub(crate) fn nano(&self, i: u64) -> &NanoPage
         ensures { result.now ≡ kept_at self.now.state (nano_page i) }
     {
-        match find(&self.slots, Key::Page(i)) {
+        match self.slots.find(Key::Page(i)) {
             Some(slot) => slot.nano(),
             None => &self.no_blocks,
         }
@@ -155,7 +154,7 @@ impl Books {
     pub(crate) fn has_no_runs(&self, key: Key) -> bool
         ensures { result ≡ (length (kept_at self.now.state (spot_of_key key)).runs == 0) }
     {
-        match find(&self.slots, key) {
+        match self.slots.find(key) {
             Some(slot) => slot.has_no_runs(),
             None => true,
         }
@@ -165,7 +164,7 @@ impl Books {
     pub(crate) fn has_no_blocks(&self, key: Key) -> bool
         ensures { result ≡ (length (kept_at self.now.state (spot_of_key key)).live == 0) }
     {
-        match find(&self.slots, key) {
+        match self.slots.find(key) {
             Some(slot) => slot.has_no_blocks(),
             None => true,
         }
@@ -175,7 +174,7 @@ impl Books {
     pub(crate) fn duty(&self, key: Key) -> Option<Event>
         ensures { result ≡ (value_at self.now.state (spot_of_key key)).duty }
     {
-        match find(&self.slots, key) {
+        match self.slots.find(key) {
             Some(slot) => slot.duty(),
             None => None,
         }
@@ -185,7 +184,7 @@ impl Books {
     pub(crate) fn last(&self, key: Key) -> Option<Done>
         ensures { option_map deed_of result ≡ (value_at self.now.state (spot_of_key key)).last }
     {
-        match find(&self.slots, key) {
+        match self.slots.find(key) {
             Some(slot) => slot.last(),
             None => None,
         }
@@ -216,7 +215,7 @@ impl Books {
     pub(crate) fn owes_nothing(&self) -> bool
         ensures { result ≡ nothing_owed self.now.state }
     {
-        owe_nothing(&self.slots)
+        self.slots.owe_nothing()
     }
 
     /// Whether a zone is open.

@@ -16,11 +16,7 @@ use mz_events::laws::entries::{lawful_entries_split, states_split};
 use mz_events::laws::events::{what_an_event_changes, when_an_event_fits};
 use mz_events::laws::separation::{live_blocks_are_ascending, separation};
 use mz_events::{Event, Place};
-use mz_spots::slots::{
-    end, find, full, give_back, lend, make, note, note_all, put_in, put_out, regain, resize, take,
-    used_by_all,
-};
-use mz_spots::{Done, Key, Slot, touched};
+use mz_spots::{Done, Key, Slots, touched};
 use std::alloc::{AllocError, Global};
 
 impl Books {
@@ -37,7 +33,7 @@ impl Books {
         let Books {
             alloc,
             profile,
-            mut slots,
+            slots,
             mut zones,
             entries,
             greatest,
@@ -46,9 +42,9 @@ impl Books {
             no_blocks,
         } = self;
         let count = one_more(entries)?;
-        change(&mut slots, alloc, &profile, Done { caller, event: *e })?;
+        let slots = change(slots, alloc, &profile, Done { caller, event: *e })?;
         change_zones(&mut zones, e)?;
-        let used = total(&slots)?;
+        let used = slots.used();
         Ok(Books {
             alloc,
             profile,
@@ -73,112 +69,102 @@ fn one_more(entries: u64) -> Result<u64, AllocError>
     }
 }
 
-// The bytes of all live blocks.
-fn total(slots: &[Slot]) -> Result<u64, AllocError>
-    ensures { IfOk result (λ used. used ≡ live_size slots.now) }
-{
-    match used_by_all(slots) {
-        Some(used) => Ok(used),
-        None => Err(AllocError),
-    }
-}
-
 // What an entry makes of the slots that it touches.
-fn change(slots: &mut Vec<Slot>, alloc: Global, p: &Profile, done: Done) -> Result<(), AllocError>
-    requires { IsReady slots.old.items done.event }
-    ensures { OnOk result ((s : State) → s.values ≡ slots.old.items → slots.new.items ≡ values_after p.now s done.caller done.event) }
+fn change(slots: Slots, alloc: Global, p: &Profile, done: Done) -> Result<Slots, AllocError>
+    requires { IsReady slots done.event }
+    ensures { IfOk result (λ t. (s : State) → s.values ≡ slots → t ≡ values_after p.now s done.caller done.event) }
 {
     what_an_event_changes();
     match done.event {
         Event::Take { k, first, pages } => take_run(slots, alloc, p, done, k, first, pages),
         Event::Back { k, first, pages } => back_run(slots, alloc, p, done, k, first, pages),
         Event::Move { first, from, to } => move_region(slots, alloc, p, done, first, from, to),
-        Event::New { k, a, s, .. } => make(slots, alloc, done, k, a, s),
-        Event::End { k, a, s } => end(slots, alloc, done, k, a, s),
-        Event::Size { k, a, s, s2 } => resize(slots, alloc, done, k, a, s, s2),
-        Event::Full { k, n, .. } => full(slots, alloc, done, k, n),
-        Event::No { k, a, .. } => note(slots, alloc, Key::at(k, a), done, None),
+        Event::New { k, a, s, .. } => slots.make(alloc, done, k, a, s),
+        Event::End { k, a, s } => slots.end(alloc, done, k, a, s),
+        Event::Size { k, a, s, s2 } => slots.resize(alloc, done, k, a, s, s2),
+        Event::Full { k, n, .. } => slots.full(alloc, done, k, n),
+        Event::No { k, a, .. } => slots.note(alloc, Key::at(k, a), done, None),
         Event::Dry { zone, .. } => {
-            let duty = oldest_of(slots, zone);
+            let duty = oldest_of(&slots, zone);
             let keys = touched(alloc, p, &done.event)?;
-            note_all(slots, alloc, &keys, done, duty)
+            slots.note_all(alloc, &keys, done, duty)
         }
         Event::Open { .. } | Event::Shut { .. } => {
             let keys = touched(alloc, p, &done.event)?;
-            note_all(slots, alloc, &keys, done, None)
+            slots.note_all(alloc, &keys, done, None)
         }
     }
 }
 
 // A place takes a run from the free pages.
 fn take_run(
-    slots: &mut Vec<Slot>,
+    slots: Slots,
     alloc: Global,
     p: &Profile,
     done: Done,
     k: Place,
     first: u64,
     pages: u64,
-) -> Result<(), AllocError>
+) -> Result<Slots, AllocError>
     requires is { done.event ≡ event.Take k first pages }
-    requires ready { CanTake slots.old.items k (run_at first pages) }
-    ensures { OnOk result ((s : State) → s.values ≡ slots.old.items → slots.new.items ≡ values_after p.now s done.caller done.event) }
+    requires ready { CanTake slots k (run_at first pages) }
+    ensures { IfOk result (λ t. (s : State) → s.values ≡ slots → t ≡ values_after p.now s done.caller done.event) }
 {
     what_an_event_changes();
     let _p = *p;
-    take(slots, alloc, done, k, first, pages)?;
-    lend(slots, alloc, done, k, first, pages)?;
-    Ok(())
+    let slots = slots.take(alloc, done, k, first, pages)?;
+    let slots = slots.lend(alloc, done, k, first, pages)?;
+    Ok(slots)
 }
 
 // A place gives a run back.
 fn back_run(
-    slots: &mut Vec<Slot>,
+    slots: Slots,
     alloc: Global,
     p: &Profile,
     done: Done,
     k: Place,
     first: u64,
     pages: u64,
-) -> Result<(), AllocError>
+) -> Result<Slots, AllocError>
     requires is { done.event ≡ event.Back k first pages }
-    requires ready { CanGive slots.old.items k (run_at first pages) }
-    ensures { OnOk result ((s : State) → s.values ≡ slots.old.items → slots.new.items ≡ values_after p.now s done.caller done.event) }
+    requires ready { CanGive slots k (run_at first pages) }
+    ensures { IfOk result (λ t. (s : State) → s.values ≡ slots → t ≡ values_after p.now s done.caller done.event) }
 {
     what_an_event_changes();
     let _p = *p;
-    give_back(slots, alloc, done, k, first)?;
-    regain(slots, alloc, done, k, first, pages)?;
-    Ok(())
+    let slots = slots.give_back(alloc, done, k, first)?;
+    let slots = slots.regain(alloc, done, k, first, pages)?;
+    Ok(slots)
 }
 
 // A region goes from a magazine to its depot, or the other way.
 fn move_region(
-    slots: &mut Vec<Slot>,
+    slots: Slots,
     alloc: Global,
     p: &Profile,
     done: Done,
     first: u64,
     from: Place,
     to: Place,
-) -> Result<(), AllocError>
+) -> Result<Slots, AllocError>
     requires is { done.event ≡ event.Move first from to }
-    requires ready { CanMove slots.old.items first from to }
-    ensures { OnOk result ((s : State) → s.values ≡ slots.old.items → slots.new.items ≡ values_after p.now s done.caller done.event) }
+    requires ready { CanMove slots first from to }
+    ensures { IfOk result (λ t. (s : State) → s.values ≡ slots → t ≡ values_after p.now s done.caller done.event) }
 {
     what_an_event_changes();
     let _p = *p;
-    let held = put_out(slots, alloc, done, from, first)?;
-    put_in(slots, alloc, done, to, held)?;
-    Ok(())
+    let (slots, held) = slots.put_out(alloc, done, from, first)?;
+    let slots = slots.put_in(alloc, done, to, held)?;
+    Ok(slots)
 }
 
 // The way back of the oldest cached run of large of a zone.
-fn oldest_of(slots: &[Slot], zone: u32) -> Option<Event>
+fn oldest_of(slots: &Slots, zone: u32) -> Option<Event>
     ensures { result ≡ oldest_back (large_of zone) (look_up slots.now (spot_of (large_of zone))).kept.cached }
 {
     let l = Place::Large { zone };
-    match find(slots, Key::of(l)) {
+    match slots.find(Key::of(l)) {
         Some(slot) => slot.holding().back_of_oldest(l),
         None => None,
     }

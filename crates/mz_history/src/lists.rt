@@ -117,7 +117,7 @@ impl Books {
     pub(crate) fn list_runs(&self) -> Result<Vec<RunAt>, AllocError>
         ensures { IfOk result (λ v. IsListOfRuns self.now.profile self.now.state v.items) }
     {
-        let mut list = runs_of(self.alloc, &self.slots)?;
+        let mut list = runs_of(self.alloc, self.slots.list())?;
         if 0 < self.profile.nano {
             list.push(RunAt {
                 k: Place::Nano,
@@ -133,7 +133,7 @@ impl Books {
     pub(crate) fn list_live(&self) -> Result<Vec<LiveAt>, AllocError>
         ensures { IfOk result (λ v. IsListOfBlocks self.now.state v.items) }
     {
-        let mut list = live_of(self.alloc, &self.slots)?;
+        let mut list = live_of(self.alloc, self.slots.list())?;
         sort_live(&mut list)?;
         Ok(list)
     }

@@ -1,10 +1,11 @@
 -- What serves a request is what the record of a request may be.
 use Rattle.std.proofs.Common.{◌≡◌, ℕ, zero, suc, ◌+◌, true, false, List, [], ◌∷◌, ◌++◌, length, map, take, refl, ap, sym, subst, ◌∙◌, arith, inl, inr, Some, None, ⊎_elim}
-use Rattle.std.specs.Prelude.{◌⊎◌, Result, Ok, Err, slice_get, if◌then◌else◌}
-use Rattle.std.specs.List.{All, Contains}
-use Rattle.std.proofs.lemmas.Bool.{false≢true}
-use Rattle.std.proofs.lemmas.List.Elements.{All-nil, All-cons, All-append, All-weaker, All-contains, Contains-append_cases}
+use Rattle.std.specs.Prelude.{◌⊎◌, ◌&&◌, not, Result, Ok, Err, slice_get, if◌then◌else◌}
+use Rattle.std.specs.List.{All, Contains, list_all}
+use Rattle.std.proofs.lemmas.Bool.{false≢true, and_from}
+use Rattle.std.proofs.lemmas.List.Elements.{All-nil, All-cons, All-head, All-tail, All-append, All-weaker, All-contains, Contains-append_cases}
 use Rattle.std.proofs.lemmas.List.{map-append}
+use Rattle.std.proofs.lemmas.List.Folds.{list_all-map}
 use Rattle.mz_base.specs.declared.profile.Profile.{Profile}
 use Rattle.mz_base.specs.Sizes.{good_size_of}
 use Rattle.mz_base.specs.Space.{block_at}
@@ -14,7 +15,7 @@ use Rattle.mz_events.specs.declared.place.Place.TheVariants.{Tiny, Small}
 use Rattle.mz_events.specs.declared.event.Event.{Event}
 use Rattle.mz_events.specs.declared.event.Event.TheVariants.{Take, Back, Move, New, Full, Dry}
 use Rattle.mz_events.specs.declared.entry.Entry.{Entry}
-use Rattle.mz_events.specs.Places.{is_magazine, depot_of, keeper_at, nano_page, same_spot, spot_of, spot_at}
+use Rattle.mz_events.specs.Places.{is_magazine, is_nano, depot_of, keeper_at, nano_page, same_spot, spot_of, spot_at}
 use Rattle.mz_events.specs.State.{State, opening, value_at}
 use Rattle.mz_events.specs.Effect.{touches}
 use Rattle.mz_events.specs.History.{AreLawful, after_entry, after_all}
@@ -22,6 +23,7 @@ use Rattle.mz_record.specs.Moments.{state_before, duty_left, first_some}
 use Rattle.mz_record.specs.Served.{Request, Regional, events, AreFlushes, IsUndisturbed}
 use Rattle.mz_record.specs.Served.{IsServed as RecordServed, by_magazine as record_by_magazine, by_depot as record_by_depot, by_fresh_region as record_by_fresh_region, null_in_range as record_null_in_range}
 use Rattle.mz_book.specs.Account.{Account, state_of, known, HoldsNothing, holds_spot, entry_at}
+use Rattle.mz_book.specs.Calls.{is_at_nano}
 use Rattle.mz_book.specs.Growth.{Grows}
 use Rattle.mz_rack.specs.declared.lot.Null.{Null}
 use Rattle.mz_rack.specs.declared.lot.Null.TheVariants.{Ranged}
@@ -30,7 +32,7 @@ use Rattle.mz_rack.specs.declared.way.Way.{Way}
 use Rattle.mz_rack.specs.Lots.{LotView}
 use Rattle.mz_rack.specs.BookLaws.{BookLaws}
 use Rattle.mz_rack.specs.Ways.{IsWayFor, request_of}
-use Rattle.mz_rack.specs.Serving.{keepers_for, block_got, TellsTickets, IsAnswer, Answers}
+use Rattle.mz_rack.specs.Serving.{keepers_for, block_got, is_large_full, TellsTickets, IsAnswer, Answers}
 use Rattle.mz_rack.specs.Stages.{at_large, at_pages, IsDried, IsFlush, AreFlushed, IsServed, by_magazine, by_depot, by_fresh_region, null_in_range, IsGot, Served}
 use Rattle.mz_rack.proofs.Undisturbed.{AreIndices, indices_behind, not_below, in_front, own_in, then_alone}
 
@@ -215,16 +217,43 @@ module _ (L : BookLaws) (M : MomentLaws) (s t : Account) (w : Way) (z n al : ℕ
           let x : a ≡ m = cc in
           let y : b ≡ d = cc in
           let u : c ≡ p = cc in
-          let ticket : Entry → ℕ = λ v. v.ticket in (
-            map (λ v. v.ticket) fs,
-            ap (λ es. map (λ v. v.ticket) es) e
-                ∙ (ap (λ l. a ∷ b ∷ l) (map-append (λ (v : Entry). v.ticket) fs (entry_at c s.caller (Dry w.zone w.pages w.pages) ∷ []))
-                ∙ (ap (λ v. v ∷ b ∷ (map (λ (q : Entry). q.ticket) fs ++ c ∷ [])) x ∙ (ap (λ v. m ∷ v ∷ (map (λ (q : Entry). q.ticket) fs ++ c ∷ [])) y ∙ ap (λ v. m ∷ d ∷ (map (λ (q : Entry). q.ticket) fs ++ v ∷ [])) u))),
+          (
+            ap (λ es. is_large_full (events es)) e ∙ (L.depot s.profile w.magazine way.way.magazine).magazine.not_large,
+            (
+              map (λ v. v.ticket) fs,
+              ap (λ es. map (λ v. v.ticket) es) e
+                  ∙ (ap (λ l. a ∷ b ∷ l) (map-append (λ (v : Entry). v.ticket) fs (entry_at c s.caller (Dry w.zone w.pages w.pages) ∷ []))
+                  ∙ (ap (λ v. v ∷ b ∷ (map (λ (q : Entry). q.ticket) fs ++ c ∷ [])) x ∙ (ap (λ v. m ∷ v ∷ (map (λ (q : Entry). q.ticket) fs ++ c ∷ [])) y ∙ ap (λ v. m ∷ d ∷ (map (λ (q : Entry). q.ticket) fs ++ v ∷ [])) u))),
+            ),
           )
       told (by_magazine x e k g) = absurd (cc)
       told (by_depot x f e k g) = absurd (cc)
       told (by_fresh_region x f a b c e fs h fl k g) = absurd (cc)
   is_answer mine holds (Err (null.Large c p)) es served is = absurd is
+
+  -- no event of it is one at nano
+  flush_outside : (e : Event) → IsFlush w e → not (is_at_nano e) ≡ true
+  flush_outside e (inl is) = ap (λ v. not (is_at_nano v)) is
+  flush_outside e (inr (f, m, is)) = ap (λ v. not (is_at_nano v)) is
+
+  flushes_outside : (flushes back : List Entry) → All (λ e. IsFlush w e.event) flushes → list_all (λ v. not (is_at_nano v)) (events back) ≡ true → list_all (λ v. not (is_at_nano v)) (events (flushes ++ back)) ≡ true
+  flushes_outside [] back each last = last
+  flushes_outside (e ∷ es) back each last =
+      and_from (not (is_at_nano e.event)) (list_all (λ v. not (is_at_nano v)) (events (es ++ back))) (flush_outside e.event (All-head (λ (x : Entry). IsFlush w x.event) e es each))
+      (flushes_outside es back (All-tail (λ (x : Entry). IsFlush w x.event) e es each) last)
+
+  outside : (es : List Entry) (holds : ℕ) (got : Result SpanView Null) → IsServed s.caller t w size al es holds got → list_all (λ v. not (is_at_nano v)) (events es) ≡ true
+  outside es holds got served = each served
+    where
+      made : (not (is_nano w.magazine) && true) ≡ true
+      made = ap (λ b. not b && true) (L.depot s.profile w.magazine way.way.magazine).magazine.not_nano
+
+      each : IsServed s.caller t w size al es holds got → list_all (λ v. not (is_at_nano v)) (events es) ≡ true
+      each (by_magazine x e k g) = ap (list_all (λ v. not (is_at_nano v))) e ∙ made
+      each (by_depot x f e k g) = ap (list_all (λ v. not (is_at_nano v))) e ∙ made
+      each (by_fresh_region x f m d i j flushes e fl k g) =
+          ap (λ vs. list_all (λ v. not (is_at_nano v)) (events vs)) e ∙ flushes_outside flushes (entry_at i s.caller (Take w.magazine f w.pages) ∷ entry_at j s.caller (New w.magazine x.first size al) ∷ []) fl.each made
+      each (null_in_range m d p flushes e fl k g) = ap (λ vs. list_all (λ v. not (is_at_nano v)) (events vs)) e ∙ flushes_outside flushes (entry_at p s.caller (Dry w.zone w.pages w.pages) ∷ []) fl.each refl
 
   pub answers : HoldsNothing s → (got : Result SpanView Null) → Served [] 0 s w size al got t → Answers s z n al (lot_of z got) t
   answers nothing got b =
@@ -240,4 +269,5 @@ module _ (L : BookLaws) (M : MomentLaws) (s t : Account) (w : Way) (z n al : ℕ
           undisturbed = undisturbed b.mine b.holds b.holds got b.grows served;
         };
         answer = is_answer b.mine b.holds got same.site served b.is;
+        outside_nano = sym (list_all-map (λ v. not (is_at_nano v)) (λ (e : Entry). e.event) b.mine) ∙ outside b.mine b.holds got served;
       }

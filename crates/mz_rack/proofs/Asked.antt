@@ -1,28 +1,46 @@
 -- What tests ask: after each request another one can be made.
-use Rattle.std.proofs.Common.{◌≡◌, true, ℕ, [], sym, subst, ◌∙◌, refl, arith}
-use Rattle.std.specs.Prelude.{Result}
+use Rattle.std.proofs.Common.{◌≡◌, ◌<◌, ◌≤◌, Bool, true, false, ℕ, List, [], ◌∷◌, ◌++◌, Option, Some, Ok, ap, sym, subst, ◌∙◌, refl, arith}
+use Rattle.std.specs.Option.{option_to_list}
+use Rattle.std.specs.Prelude.{Result, ◌||◌}
 use Rattle.mz_base.specs.declared.profile.Profile.{Profile}
 use Rattle.mz_base.specs.Limits.{IsWithinLimits, IsFrom}
 use Rattle.mz_base.specs.Site.{Site}
 use Rattle.mz_events.specs.State.{is_open, opening}
 use Rattle.mz_events.specs.History.{after_all}
-use Rattle.mz_book.specs.Account.{Account}
+use Rattle.mz_book.specs.Account.{Account, state_of, hand}
 use Rattle.mz_book.specs.Plain.{opening_account, Reserves, ActsAs}
 use Rattle.mz_rack.specs.declared.lot.Null.{Null}
 use Rattle.mz_rack.specs.Lots.{LotView}
 use Rattle.mz_rack.specs.Serving.{CanServe, Answers}
+use Rattle.mz_base.specs.Space.{Block, same_block}
+use Rattle.mz_base.specs.Lists.{has_block}
+use Rattle.mz_events.specs.declared.entry.Entry.{Entry}
+use Rattle.mz_events.specs.Hands.{hand_through}
+use Rattle.mz_record.specs.Served.{Request, IsServed}
+use Rattle.mz_book.specs.declared.pair.Pair.{Pair}
+use Rattle.mz_book.specs.Pairs.{hand_among}
+use Rattle.mz_book.specs.Growth.{pairs_through}
+use Rattle.mz_rack.specs.declared.lot.NotLive.{NotLive}
+use Rattle.mz_rack.specs.Ways.{request_of}
+use Rattle.mz_rack.specs.Freeing.{block_of, IsFreeable, Frees}
+use Rattle.mz_rack.proofs.Listed.{is_same_block}
+
+-- what requests make of a hand
+pub record HandLaws : Type 0 where
+  pub through : (c : ℕ) (pairs : List Pair) (es : List Entry) → hand_among c (pairs_through c pairs es) ≡ hand_through (hand_among c pairs) es
+  pub served : (p : Profile) (h : List Entry) (q : Request) (es : List Entry) (got : Option Block) (bs : List Block) → IsServed p h q es got → hand_through bs es ≡ bs ++ option_to_list got
 
 -- what the tests ask of
 abbrev pub tested : ℕ → ℕ → Profile
-tested pages magazines = record { pages = pages; callers = 3; magazines = magazines; nano = 0; most_gen = 1; zones = 1 }
+tested pages nano = record { pages = pages; callers = 3; magazines = 1; nano = nano; most_gen = 1; zones = 1 }
 
-pub tested_limits : (pages magazines : ℕ) → IsFrom 1 16384 pages → IsFrom 1 16 magazines → IsWithinLimits (tested pages magazines)
-tested_limits pages magazines p m = record {
+pub tested_limits : (pages nano : ℕ) → IsFrom 1 16384 pages → IsFrom 0 1024 nano → nano ≤ pages → IsWithinLimits (tested pages nano)
+tested_limits pages nano p n within = record {
   pages = p;
   callers = (omega arith, omega arith);
-  magazines = m;
-  nano = (omega arith, omega arith);
-  nano_within = omega arith;
+  magazines = (omega arith, omega arith);
+  nano = n;
+  nano_within = within;
   most_gen = (omega arith, omega arith);
   zones = (omega arith, omega arith);
 }
@@ -65,5 +83,38 @@ can_again s t p z y m n al got can answers =
       profile = adds.same.profile ∙ can.profile;
       zone_open = adds.zones y ∙ can.zone_open;
       nothing_held = answers.nothing_held;
+      room = omega arith;
+    }
+
+behind : (x y : Bool) → y ≡ true → (x || y) ≡ true
+behind true y e = refl
+behind false y e = e
+
+has_last : (bs : List Block) (b : Block) → has_block (bs ++ b ∷ []) b ≡ true
+has_last [] b = ap (λ x. x || false) (is_same_block b)
+has_last (x ∷ bs) b = behind (same_block b x) _ (has_last bs b)
+
+-- a block that was served may be freed by the same caller
+pub freeable : (s t u : Account) (p : Profile) (z m n al k : ℕ) (l : LotView) → HandLaws → CanServe s p z m → z < p.zones → Answers s z n al (Ok l) t → Reserves t k u → IsFreeable u l
+freeable s t u p z m n al k l H can zone answers more =
+    let adds = answers.grows.adds in
+    let b = block_of l in
+    let hand_is : hand t ≡ hand s ++ b ∷ [] =
+    ap (λ c. hand_among c t.pairs) adds.same.caller ∙ (ap (λ ps. hand_among s.caller ps) adds.pairs ∙ (H.through s.caller s.pairs answers.mine ∙ H.served s.profile t.seen (request_of s.caller z n al) answers.mine (Some b) (hand s) answers.serves.served)) in
+    subst (λ y. IsFreeable y l) (sym more.after) (record {
+      in_hand = ap (λ h. has_block h b) hand_is ∙ has_last (hand s) b;
+      zone = subst (λ y. y < t.profile.zones) (sym answers.answer.0) (subst (λ (q : Profile). z < q.zones) (sym (adds.same.profile ∙ can.profile)) zone);
+      zone_open = ap (λ y. is_open (state_of t) y) answers.answer.0 ∙ (adds.zones z ∙ can.zone_open);
+      space = answers.answer.1 ∙ sym adds.same.site;
+    })
+
+-- and after a free requests can be made again
+pub can_then : (s t : Account) (p : Profile) (z y m : ℕ) (l : LotView) (got : Result (Unit {0}) NotLive) → CanServe s p y m → Frees s z l got t → CanServe t p y 0
+can_then s t p z y m l got can frees =
+    let adds = frees.grows.adds in
+    record {
+      profile = adds.same.profile ∙ can.profile;
+      zone_open = adds.zones y ∙ can.zone_open;
+      nothing_held = frees.nothing_held;
       room = omega arith;
     }

@@ -51,10 +51,11 @@ owed_among live d e f w [] h = absurd (cc)
 owed_among live d e f w (r ∷ rs) h = elim (cases_Bool (is_unused live r)) [
   | inl y ↦
       let same = sym (ap (λ o. option_map (λ (t : Run). Back d t.first t.pages) o) (cond-true (is_unused live r) (Some r) (find (is_unused live) rs) y)) ∙ h in
-      let is : r ≡ run_at f w = ap (λ x. run_at x r.pages) (first_is same) ∙ ap (λ x. run_at f x) (pages_is same) in
-      (or_left _ (has_run rs (run_at f w)) (subst (λ t. same_run (run_at f w) t ≡ true) (sym is) (is_same_run (run_at f w))),
+      let is : r ≡ run_at f w = ap (λ x. run_at x r.pages) (first_is same) ∙ ap (λ x. run_at f x) (pages_is same) in (
+        or_left _ (has_run rs (run_at f w)) (subst (λ t. same_run (run_at f w) t ≡ true) (sym is) (is_same_run (run_at f w))),
         or_left (r.first == f) (list_any (λ t. t.first == f) rs) (eq-eqb r.first f (first_is same)),
-        subst (λ t. is_unused live t ≡ true) is y)
+        subst (λ t. is_unused live t ≡ true) is y,
+      )
   | inr y ↦
       let rest = owed_among live d e f w rs (sym (ap (λ o. option_map (λ (t : Run). Back d t.first t.pages) o) (cond-false (is_unused live r) (Some r) (find (is_unused live) rs) y)) ∙ h) in
       (behind _ _ rest.0, behind (r.first == f) _ rest.1, rest.2)

@@ -21,3 +21,4 @@ mod Dropping
 mod Flushing
 mod LargeLemmas
 mod Seeking
+mod TwoZones

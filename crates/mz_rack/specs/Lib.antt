@@ -14,3 +14,4 @@ pub mod FreeStages
 pub mod BookLaws
 pub mod Flushing
 pub mod Seeking
+pub mod TwoZones

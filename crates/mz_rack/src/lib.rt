@@ -1,4 +1,4 @@
-//! The rack: a request for a block, served from keepers that are taken one after another.
+//! The rack: a request for a block is served, and a block is freed, with keepers that are taken one after another.
 //!
 //! - `Keeper`: what stands for a place: the free pages, a magazine, a depot, or large of a zone.
 //! - `Rack`: a zone's requests, served over any book.
@@ -14,13 +14,21 @@
 //!              |                |                |
 //!              new              move, new        take, new
 //! held         1                2                4 keepers
+//!
+//! free     ->  0t0 or 0td?  another zone  ->  no
+//!              |
+//!              end          excess?  ->  0td   bare?  ->  p
+//!                                        |                |
+//!                                        move             back
+//! held         1                         2                3 keepers
 //! ```
 //!
-//! Each keeper that was taken stays held until the last entry of the request is noted, so that nobody else
-//! touches these places in between.
+//! A keeper that an entry was noted for stays held until the last entry of the call is noted, so that nobody else
+//! touches these places in between. While a free looks for its block, it holds one keeper at a time.
 //!
 //! To the crates above, this one promises that a request adds to the record just the entries that serve it
-//! (`mz_record` says which these are), and that the lot is the block of its last entry.
+//! (`mz_record` says which these are), and that the lot is the block of its last entry; and that a free adds just those that
+//! drop the block, or the one that says that it is of another zone.
 #![tactic(auto)]
 
 mod flush;

@@ -1,8 +1,7 @@
-#![tactic(none)]
-
 ghost use Rattle.std.specs.Prelude.{◌≡◌, ℕ, ◌<◌, ◌≤◌, IfOk};
 ghost use Rattle.std.specs.Int.{IsPowerOfTwo};
 ghost use Rattle.mz_base.specs.Limits.{IsWithinLimits, IsFrom};
+ghost use Rattle.mz_book.specs.Plain.{opening_account};
 ghost use Rattle.mz_rack.specs.Serving.{CanServe};
 
 use crate::{Keeper, Lot, Null, Rack};
@@ -14,6 +13,9 @@ use std::alloc::{AllocError, Global};
 use std::sync::Wait;
 use std::test::Fail;
 
+mod freeing;
+mod zones;
+
 const TINY: Place = Place::Tiny { zone: 0, mag: 0 };
 
 const TINY_DEPOT: Place = Place::TinyDepot { zone: 0 };
@@ -22,36 +24,39 @@ const SMALL: Place = Place::Small { zone: 0, mag: 0 };
 
 const SMALL_DEPOT: Place = Place::SmallDepot { zone: 0 };
 
-// A book of all keepers of a space without nano, without entries, and the rack of zone 0.
-#[tactic(auto)]
-fn setting(
-    alloc: Global,
-    pages: u64,
-    magazines: u32,
-) -> Result<(PlainBook<Keeper>, Rack), AllocError>
+// A book of all keepers of the pages below nano's, in which nothing was noted yet.
+fn book_of(alloc: Global, p: &Profile) -> Result<PlainBook<Keeper>, AllocError>
+    requires { IsWithinLimits p.now }
+    ensures { IfOk result (λ b. ⟦<PlainBook<Keeper> as Book<Keeper>>⟧.account b ≡ opening_account p.now (⟦<PlainBook<Keeper> as Book<Keeper>>⟧.account b).site) }
+{
+    let span = Space::new(alloc, p.pages - p.nano)?;
+    let keepers = Keeper::all(alloc, p, span)?;
+    PlainBook::new(alloc, p, keepers)
+}
+
+// Such a book for one zone, and the zone's rack.
+fn setting(alloc: Global, pages: u64, nano: u64) -> Result<(PlainBook<Keeper>, Rack), AllocError>
     requires pages { IsFrom 1 16384 pages }
-    requires magazines { IsFrom 1 16 magazines }
+    requires nano { IsFrom 0 1024 nano }
+    requires within { nano ≤ pages }
     ensures can { IfOk result (λ s. CanServe (⟦<PlainBook<Keeper> as Book<Keeper>>⟧.account s.0) s.1.profile s.1.zone 0) }
     ensures callers { IfOk result (λ s. s.1.profile.callers ≡ 3) }
 {
     let p = Profile {
         pages,
         callers: 3,
-        magazines,
-        nano: 0,
+        magazines: 1,
+        nano,
         most_gen: 1,
         zones: 1,
     };
-    let span = Space::new(alloc, pages)?;
-    let keepers = Keeper::all(alloc, &p, span)?;
-    let book = PlainBook::new(alloc, &p, keepers)?;
+    let book = book_of(alloc, &p)?;
     let rack = Rack::new(alloc, &p, 0)?;
     Ok((book, rack))
 }
 
 // Makes room for a request's entries, and asks as the caller. Requests can be made again then, in each zone in which
 // they could be before.
-#[tactic(auto)]
 fn ask<R: Wait>(
     rt: &R,
     rack: &Rack,
@@ -72,8 +77,27 @@ fn ask<R: Wait>(
     Ok(rack.alloc(rt, book, n, al))
 }
 
+// Asks so often as caller 0, and says whether each request was served.
+fn ask_often<R: Wait>(
+    rt: &R,
+    rack: &Rack,
+    book: &mut PlainBook<Keeper>,
+    times: u32,
+    n: u64,
+) -> Result<bool, AllocError>
+    requires can { CanServe (⟦<PlainBook<Keeper> as Book<Keeper>>⟧.account book.old) rack.now.profile rack.now.zone 0 }
+    requires caller { 0 < rack.now.profile.callers }
+    requires small { n ≤ 32768 }
+    ensures { CanServe (⟦<PlainBook<Keeper> as Book<Keeper>>⟧.account book.new) rack.now.profile rack.now.zone 0 }
+{
+    let mut each = true;
+    for _ in 0..times {
+        each &= ask(rt, rack, book, 0, n, 16)?.is_ok();
+    }
+    Ok(each)
+}
+
 // The events of the entries from a ticket on.
-#[tactic(auto)]
 fn same_events(history: &[Entry], from: usize, events: &[Event]) -> bool {
     history.len() >= from
         && history.len() - from == events.len()
@@ -83,7 +107,24 @@ fn same_events(history: &[Entry], from: usize, events: &[Event]) -> bool {
             .eq(events.iter().copied())
 }
 
-#[tactic(auto)]
+// What a request for `n` bytes adds that a fresh region of so many pages from page `first` on serves.
+fn by_fresh_region(k: Place, depot: Place, n: u64, first: u64, pages: u64) -> [Event; 4]
+    requires { first < 16384 }
+{
+    let al = 16;
+    [
+        Event::Full { k, n, al },
+        Event::Full { k: depot, n, al },
+        Event::Take { k, first, pages },
+        Event::New {
+            k,
+            a: first * 16_384,
+            s: n,
+            al,
+        },
+    ]
+}
+
 fn is_send_and_sync<T: Send + Sync>() {}
 
 const FIRST_REQUESTS: [Event; 8] = [
@@ -131,17 +172,15 @@ const FIRST_REQUESTS: [Event; 8] = [
     },
 ];
 
-#[tactic(auto)]
 #[test]
 fn keepers_and_lots_go_from_thread_to_thread() {
     is_send_and_sync::<Keeper>();
     is_send_and_sync::<Lot>();
 }
 
-#[tactic(auto)]
 #[test]
 fn tiny_comes_from_a_fresh_region_and_then_from_the_magazine(rt: HostRuntime) -> Result<(), Fail> {
-    let (mut book, rack) = setting(rt.alloc(), 576, 1)?;
+    let (mut book, rack) = setting(rt.alloc(), 576, 0)?;
     let Ok(a) = ask(&rt, &rack, &mut book, 0, 40, 16)? else {
         return Err(Fail::new("pages are free"));
     };
@@ -206,17 +245,15 @@ const SMALL_IS_FILLED: [Event; 7] = [
     },
 ];
 
-#[tactic(auto)]
 #[test]
 fn a_small_region_is_filled_to_its_last_quantum(rt: HostRuntime) -> Result<(), Fail> {
-    let (mut book, rack) = setting(rt.alloc(), 512, 1)?;
-    for _ in 0..256 {
-        let got = ask(&rt, &rack, &mut book, 0, 32_768, 16)?;
-        assert!(rt; got.is_ok());
-    }
-    let small = ask(&rt, &rack, &mut book, 0, 1_009, 16)?;
-    let tiny = ask(&rt, &rack, &mut book, 0, 1, 16)?;
-    assert!(rt; small.is_err() && tiny.is_err());
+    let (mut book, rack) = setting(rt.alloc(), 512, 0)?;
+    assert!(rt; ask_often(&rt, &rack, &mut book, 1, 32_768)?);
+    let first = by_fresh_region(SMALL, SMALL_DEPOT, 32_768, 0, 512);
+    assert!(rt; same_events(book.history(), 0, first.as_slice()));
+    assert!(rt; ask_often(&rt, &rack, &mut book, 255, 32_768)?);
+    assert!(rt; !ask_often(&rt, &rack, &mut book, 1, 1_009)?);
+    assert!(rt; !ask_often(&rt, &rack, &mut book, 1, 1)?);
     assert!(rt; same_events(book.history(), 258, SMALL_IS_FILLED.as_slice()));
     Ok(())
 }
@@ -246,17 +283,42 @@ const TINY_IS_FILLED: [Event; 4] = [
     },
 ];
 
-#[tactic(auto)]
 #[test]
 fn a_tiny_region_is_filled_to_its_last_quantum(rt: HostRuntime) -> Result<(), Fail> {
-    let (mut book, rack) = setting(rt.alloc(), 64, 1)?;
-    for _ in 0..1_040 {
-        let got = ask(&rt, &rack, &mut book, 0, 1_008, 16)?;
-        assert!(rt; got.is_ok());
-    }
-    let rest = ask(&rt, &rack, &mut book, 0, 256, 16)?;
-    let none = ask(&rt, &rack, &mut book, 0, 16, 16)?;
-    assert!(rt; rest.is_ok() && none.is_err());
+    let (mut book, rack) = setting(rt.alloc(), 64, 0)?;
+    assert!(rt; ask_often(&rt, &rack, &mut book, 1_040, 1_008)?);
+    assert!(rt; ask_often(&rt, &rack, &mut book, 1, 256)?);
+    assert!(rt; !ask_often(&rt, &rack, &mut book, 1, 16)?);
     assert!(rt; same_events(book.history(), 1_043, TINY_IS_FILLED.as_slice()));
+    Ok(())
+}
+
+#[test]
+fn each_magazine_of_each_zone_has_its_region(rt: HostRuntime) -> Result<(), Fail> {
+    let (mut book, first, second) = zones::setting(&rt, rt.alloc())?;
+    for mag in 0..3 {
+        let region = 128 * u64::from(mag);
+        let from = book.history().len();
+        let here = ask(&rt, &first, &mut book, mag, 16, 16)?;
+        assert!(rt; here.is_ok());
+        let (k, depot) = (Place::Tiny { zone: 0, mag }, Place::TinyDepot { zone: 0 });
+        let events = by_fresh_region(k, depot, 16, region, 64);
+        assert!(rt; same_events(book.history(), from, events.as_slice()));
+        let from = book.history().len();
+        let there = ask(&rt, &second, &mut book, mag, 16, 16)?;
+        assert!(rt; there.is_ok());
+        let (k, depot) = (Place::Tiny { zone: 1, mag }, Place::TinyDepot { zone: 1 });
+        let events = by_fresh_region(k, depot, 16, region + 64, 64);
+        assert!(rt; same_events(book.history(), from, events.as_slice()));
+    }
+    assert_eq!(rt; book.history().len(), 25);
+    Ok(())
+}
+
+#[test]
+fn a_space_of_nano_s_pages_alone_opens(rt: HostRuntime) -> Result<(), Fail> {
+    let (mut book, rack) = setting(rt.alloc(), 2, 2)?;
+    assert!(rt; !ask_often(&rt, &rack, &mut book, 1, 16)?);
+    assert_eq!(rt; book.history().len(), 3);
     Ok(())
 }

@@ -1,4 +1,5 @@
 mod KeyLemmas
 mod SpotLemmas
 mod SlotLemmas
+mod IndexLemmas
 pub mod RunLemmas

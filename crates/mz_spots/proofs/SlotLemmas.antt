@@ -1,7 +1,7 @@
 -- Where a spot stands in a list of slots, and what is written there.
-use Rattle.std.proofs.Common.{◌≡◌, ℕ, ◌+◌, ◌<◌, ◌≤◌, Bool, true, false, cond, List, [], ◌∷◌, ◌++◌, length, take, drop, get_or, suc, zero, refl, sym, ap, ◌∙◌, subst, inl, inr, arith, length-append, add-one}
-use Rattle.std.specs.Prelude.{slice_set, ◌||◌, Option}
-use Rattle.std.proofs.lemmas.Bool.{cases_Bool, cond-true, cond-false, false≢true, or_from, or_left}
+use Rattle.std.proofs.Common.{◌≡◌, ℕ, ◌+◌, ◌<◌, ◌≤◌, Bool, true, false, List, [], ◌∷◌, ◌++◌, length, take, drop, get_or, suc, zero, refl, sym, ap, ◌∙◌, subst, inl, inr, arith, length-append}
+use Rattle.std.specs.Prelude.{slice_set, ◌||◌, Option, Result, Ok, Err, IfOk}
+use Rattle.std.proofs.lemmas.Bool.{cases_Bool, cond-true, cond-false, false≢true}
 use Rattle.mz_events.specs.declared.place.Place.{Place}
 use Rattle.mz_events.specs.declared.place.Place.TheVariants.{Pages, Tiny, TinyDepot, Small, SmallDepot, Large, Nano}
 use Rattle.mz_events.specs.Places.{Spot, same_spot, keeper_at, spot_at, is_pages}
@@ -48,24 +48,6 @@ module _ (j : Spot) where
     writes = λ v. set_here values i d v below same none;
   }
 
-  -- one more that hasn't
-  none_more' : (values : List (Spot × Value)) (i : ℕ) (d : Spot × Value) → i < length values → has_spot (take i values) j ≡ false → same_spot j (get_or values i d).0 ≡ false → has_spot (take (suc i) values) j ≡ false
-  none_more' [] i d below none other = absurd (omega arith)
-  none_more' (x ∷ xs) zero d below none other = or_from (same_spot j x.0) false other refl
-  none_more' (x ∷ xs) (suc i) d below none other =
-      let parts = parts_false (same_spot j x.0) (has_spot (take i xs) j) none in
-      or_from (same_spot j x.0) (has_spot (take (suc i) xs) j) parts.0 (none_more' xs i d (omega arith) parts.1 other)
-
-  pub none_more : (values : List (Spot × Value)) (i : ℕ) (d : Spot × Value) → i < length values → has_spot (take i values) j ≡ false → same_spot j (get_or values i d).0 ≡ false → has_spot (take (i + 1) values) j ≡ false
-  none_more values i d below none other = ap (λ n. has_spot (take n values) j) (add-one i) ∙ none_more' values i d below none other
-
-  pub none_at_all : (values : List (Spot × Value)) (i : ℕ) → length values ≤ i → has_spot (take i values) j ≡ false → has_spot values j ≡ false
-  none_at_all [] i over none = refl
-  none_at_all (x ∷ xs) zero over none = absurd (omega arith)
-  none_at_all (x ∷ xs) (suc i) over none =
-      let parts = parts_false (same_spot j x.0) (has_spot (take i xs) j) none in
-      or_from (same_spot j x.0) (has_spot xs j) parts.0 (none_at_all xs i (omega arith) parts.1)
-
   -- a blank slot behind slots of other spots
   blank_there : (values : List (Spot × Value)) → has_spot values j ≡ false → look_up values j ≡ blank
   unfolding look_up
@@ -94,22 +76,29 @@ module _ (j : Spot) where
       } in
       subst (λ (n : ℕ). IsSlotFor old new n j) (sym at) (subst (λ (l : List (Spot × Value)). IsSlotFor old l (length old) j) (sym is) one)
 
-pub slot_in : (xs ys : List (Spot × Value)) (i : ℕ) (j : Spot) → xs ≡ ys → IsSlotFor xs xs i j → IsSlotFor ys ys i j
-slot_in xs ys i j same at = subst (λ (l : List (Spot × Value)). IsSlotFor l l i j) same at
-
 -- ---- what stands in the slot, and what is written there
 
-module _ (old new : List (Spot × Value)) (i : ℕ) (j k : Spot) (h : Spot × Value) (at : IsSlotFor old new i j) (named : j ≡ k) (read : h ≡ get_or new i h) where
+if_ok_so : {A E : Type 0} (r : Result A E) (P Q : A → Type 0) → ((x : A) → P x → Q x) → IfOk r P → IfOk r Q
+if_ok_so (Ok x) P Q so h = so x h
+if_ok_so (Err e) P Q so h = h
+
+-- the slot of the spot k, which is j, is taken out of old, and rest is left
+module _ (old rest : List (Spot × Value)) (j k : Spot) (h : Spot × Value) (named : j ≡ k) (read : h ≡ (j, look_up old j)) where
   pub slot_is : h ≡ (k, look_up old k)
-  slot_is = read ∙ at.here h ∙ ap (λ (q : Spot). (q, look_up old q)) named
+  slot_is = read ∙ ap (λ (q : Spot). (q, look_up old q)) named
 
   pub slot_has : (P : Spot × Value → Type 0) → P (k, look_up old k) → P h
   slot_has P holds = subst P (sym slot_is) holds
 
-  pub slot_written : (g : Spot × Value) (f : Value → Value) → g ≡ (h.0, f h.1) → slice_set new i g ≡ write old k (f (look_up old k))
-  slot_written g f is =
-      let value : g ≡ (k, f (look_up old k)) = is ∙ ap (λ (x : Spot × Value). (x.0, f x.1)) slot_is in
-      ap (slice_set new i) value ∙ ap (λ (q : Spot). slice_set new i (q, f (look_up old k))) (sym named) ∙ at.writes (f (look_up old k)) ∙ ap (λ (q : Spot). write old q (f (look_up old k))) named
+  -- and put back with another value
+  module _ (left : (v : Value) → write rest j v ≡ write old j v) (g : Spot × Value) (f : Value → Value) (is : g ≡ (h.0, f h.1)) where
+    pub slot_put : (s : List (Spot × Value)) → s ≡ write rest g.0 g.1 → s ≡ write old k (f (look_up old k))
+    slot_put s put =
+        let now : g ≡ (j, f (look_up old j)) = is ∙ ap (λ (x : Spot × Value). (x.0, f x.1)) read in
+        put ∙ ap (λ (x : Spot × Value). write rest x.0 x.1) now ∙ left (f (look_up old j)) ∙ ap (λ (q : Spot). write old q (f (look_up old q))) named
+
+    pub slot_written : {E : Type 0} (r : Result (List (Spot × Value)) E) → IfOk r (λ s. s ≡ write rest g.0 g.1) → IfOk r (λ s. s ≡ write old k (f (look_up old k)))
+    slot_written r put = if_ok_so r (λ s. s ≡ write rest g.0 g.1) (λ s. s ≡ write old k (f (look_up old k))) slot_put put
 
 pub not_pages : (k : Place) (a : ℕ) → is_pages k ≡ false → spot_at k a ≡ keeper_at Pages → ⊥
 not_pages Pages a h e = false≢true (sym h)

@@ -45,7 +45,7 @@ cond_same : {A : Type 0} (b : Bool) (x y : A) → x ≡ y → cond b x y ≡ x
 cond_same true x y e = refl
 cond_same false x y e = sym e
 
-cond_swap : {A : Type 0} (b c : Bool) (x y z : A) → (b ≡ true → c ≡ true → ⊥) → cond b x (cond c y z) ≡ cond c y (cond b x z)
+pub cond_swap : {A : Type 0} (b c : Bool) (x y z : A) → (b ≡ true → c ≡ true → ⊥) → cond b x (cond c y z) ≡ cond c y (cond b x z)
 cond_swap true true x y z h = absurd (h refl refl)
 cond_swap true false x y z h = refl
 cond_swap false true x y z h = refl

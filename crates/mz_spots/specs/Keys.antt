@@ -1,5 +1,5 @@
 -- The spots of a state, as code names them.
-use Rattle.std.specs.Prelude.{ℕ, List, map}
+use Rattle.std.specs.Prelude.{List, map}
 use Rattle.mz_spots.specs.declared.key.Key.{Key}
 use Rattle.mz_spots.specs.declared.key.Key.TheVariants.{Keeper, Page}
 use Rattle.mz_events.specs.Places.{Spot, keeper_at, nano_page}

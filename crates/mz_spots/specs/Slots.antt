@@ -1,7 +1,6 @@
 -- A spot with its value, as code has them.
-use Rattle.std.specs.Prelude.{ℕ, Bool, true, false, not, Option, Some, None}
+use Rattle.std.specs.Prelude.{Bool, true, false, not, Option}
 use Rattle.std.specs.Option.{option_map}
-use Rattle.mz_events.specs.declared.place.Place.TheVariants.{Pages}
 use Rattle.mz_spots.specs.declared.key.Key.{Key}
 use Rattle.mz_spots.specs.declared.key.Key.TheVariants.{Keeper, Page}
 use Rattle.mz_spots.specs.declared.slot.Keeping.{Keeping}

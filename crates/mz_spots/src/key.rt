@@ -5,6 +5,7 @@ ghost use Rattle.mz_events.specs.declared.place.Place.TheVariants.{Tiny as tiny,
 ghost use Rattle.mz_events.specs.Places.{keeper_at, same_place as one_place, same_spot, spot_at, spot_of, places_of as all_places};
 ghost use Rattle.mz_events.specs.Effect.{touched as touched_by};
 ghost use Rattle.mz_spots.specs.Keys.{spot_of_key, spots_of};
+ghost use Rattle.mz_spots.specs.Indexes.{numbers_of};
 
 use mz_base::{PAGE, Profile};
 use mz_events::{Event, Place};
@@ -33,6 +34,22 @@ impl Key {
         ensures { spot_of_key result ≡ spot_of k }
     {
         Key::at(k, 0)
+    }
+
+    // Numbers that tell spots apart: that of the kind, and two more.
+    pub(crate) fn numbers(self) -> (u64, (u64, u64))
+        ensures { result ≡ numbers_of (spot_of_key self) }
+    {
+        match self {
+            Key::Keeper(Place::Pages) => (0, (0, 0)),
+            Key::Keeper(Place::Tiny { zone, mag }) => (1, (zone as u64, mag as u64)),
+            Key::Keeper(Place::TinyDepot { zone }) => (2, (zone as u64, 0)),
+            Key::Keeper(Place::Small { zone, mag }) => (3, (zone as u64, mag as u64)),
+            Key::Keeper(Place::SmallDepot { zone }) => (4, (zone as u64, 0)),
+            Key::Keeper(Place::Large { zone }) => (5, (zone as u64, 0)),
+            Key::Keeper(Place::Nano) => (6, (0, 0)),
+            Key::Page(i) => (7, (i, 0)),
+        }
     }
 
     /// Whether the two are one.

@@ -3,9 +3,12 @@
 //! - `Key`: a spot by its name: a place that has a keeper, or a page of nano.
 //! - `Slot`: a spot with what it keeps, its duty and the last entry that touched it.
 //! - `Done`: an entry without its ticket.
-//! - `slots`: lists of slots, and what an entry makes of them.
+//! - `Slots`: the slots of a state, and what an entry makes of them.
 //!
 //! ```text
+//! Slots     list      | Slot | Slot | Slot | ..      in the order in which they came
+//!           places    spot -> index                  an ordered map
+//!           used                                     the bytes of all live blocks
 //! Slot      key keeping duty last                    keeping: FreePages, Holding or NanoPage
 //! ```
 //!
@@ -15,7 +18,8 @@
 
 mod key;
 mod slot;
-pub mod slots;
+mod slots;
 
 pub use key::{Key, is_same_place, spots_of_zone, touched};
 pub use slot::{Done, Slot};
+pub use slots::Slots;

@@ -11,9 +11,9 @@ pub lend-requires-clause-apart : goal.lend-requires-clause-apart
 lend-requires-clause-apart c =
     let k = c.args.k in
     subst (λ (v : Value). IsTrue (list_all (λ t. runs_apart t (run_at c.args.first c.args.pages)) v.kept.taken))
-    (sym (stays_there c.args.slots.now.items c.take.new.slots.items (spot_of k) (keeper_at Pages) _ (kind_apart k c.requires.ready.kind).1 c.in_ok-take.ensures)) c.requires.ready.untaken
+    (sym (stays_there c.args.slots c.in_ok-slots.slots (spot_of k) (keeper_at Pages) _ (kind_apart k c.requires.ready.kind).1 c.in_ok-slots.ensures)) c.requires.ready.untaken
 
 pub returns : goal.returns
 returns c = λ s same.
-    take_after c.args.p.now s c.args.done.caller (c.what_an_event_changes.ensures.leaves s c.args.done.caller) c.args.slots.now.items c.take.new.slots.items c.lend.new.slots.items same c.args.done.event
-    c.args.k c.args.first c.args.pages c.requires.is c.requires.ready.kind c.in_ok-take.ensures c.in_ok-lend.ensures
+    take_after c.args.p.now s c.args.done.caller (c.what_an_event_changes.ensures.leaves s c.args.done.caller) c.args.slots c.in_ok-slots.slots c.in_ok-slots-2.slots same c.args.done.event
+    c.args.k c.args.first c.args.pages c.requires.is c.requires.ready.kind c.in_ok-slots.ensures c.in_ok-slots-2.ensures

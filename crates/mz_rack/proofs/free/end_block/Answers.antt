@@ -88,4 +88,3 @@ returns-in-Depot g c =
     let x = subst (λ q. HasEnded s q b u) h.0.depot c.end_in.ensures.ended in
     let moments : MomentLaws = record { before = c.moments.ensures.before; after_one = c.states_split.ensures.one; after_joined = c.states_split.ensures.joined } in
     over_settled L s u w b h.0 h.1 x moments (g.B.Book.account c.settle.new.book) (g.met.B.Book.orderly c.settle.new.book).lawful c.settle.ensures
-

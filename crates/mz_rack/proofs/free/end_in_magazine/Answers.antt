@@ -104,4 +104,3 @@ returns-in-None g c =
     let a = itself u _ (held_one L s u w b c.requires.way c.requires.lives x) in
     let moments : MomentLaws = record { before = c.moments.ensures.before; after_one = c.states_split.ensures.one; after_joined = c.states_split.ensures.joined } in
     over_at_once L s u w b c.requires.way c.requires.lives x moments (g.B.Book.account c.release.new.self) (g.met.B.Book.orderly c.release.new.self).lawful none (let_down u _ u w.k _ _ a c.release.ensures (drop_k L u.profile w way))
-

@@ -199,4 +199,3 @@ returns g c =
     let b = let_down u _ u w.p _ _ a c.release.ensures (without_pages L w s t f o k ord.lawful i u x) in
     let moments : MomentLaws = record { before = c.moments.ensures.before; after_one = c.states_split.ensures.one; after_joined = c.states_split.ensures.joined } in
     settles L w s t f o k ord.lawful i u x moments (g.B.Book.account c.release-2.new.self) (g.met.B.Book.orderly c.release-2.new.self).lawful (let_down u _ _ w.d _ _ b c.release-2.ensures refl) c.requires.first
-

@@ -207,4 +207,3 @@ returns g c =
     let a = itself v _ held in
     let moments : MomentLaws = record { before = c.moments.ensures.before; after_one = c.states_split.ensures.one; after_joined = c.states_split.ensures.joined } in
     has_moved L w f s t k ord.lawful i u v x z moments (g.B.Book.account c.release.new.self) (g.met.B.Book.orderly c.release.new.self).lawful (let_down v _ v w.k _ _ a c.release.ensures (drop_k L v.profile w way))
-

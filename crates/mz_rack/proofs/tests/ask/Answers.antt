@@ -1,6 +1,5 @@
-use Rattle.std.proofs.Common.{ap, sym, subst, ◌<◌}
+use Rattle.std.proofs.Common.{sym, subst, ◌<◌}
 use Rattle.mz_base.specs.declared.profile.Profile.{Profile}
-use Rattle.mz_rack.specs.Serving.{CanServe}
 use Rattle.mz_rack.proofs.Asked.{can_as, can_with, can_again}
 use Rattle.mz_rack.proofs.tests.ask.Goals as goal
 

@@ -1,8 +1,6 @@
-use Rattle.std.proofs.Common.{sym, ap, ◌∙◌, List}
-use Rattle.mz_events.specs.Places.{Spot}
+use Rattle.std.proofs.Common.{sym, ap, ◌∙◌}
 use Rattle.mz_events.specs.State.{Value, look_up}
 use Rattle.mz_history.specs.Booked.{Booked}
-use Rattle.mz_spots.specs.SlotLists.{found_at}
 use Rattle.mz_history.proofs.BookLemmas.{value_found, spot_found, none_found}
 use Rattle.mz_events.specs.Places.{keeper_at}
 use Rattle.mz_events.specs.declared.place.Place.TheVariants.{Pages}
@@ -11,20 +9,20 @@ use Rattle.mz_history.proofs.books.Books.free.Goals as goal
 pub free-requires : goal.free-requires
 free-requires c =
     let j = keeper_at Pages in
-    let values = c.self.inside.slots.items in
-    let found = c.in-Some.ensures ∙ ap (λ (l : List (Spot × Value)). found_at l j) c.deref.ensures.value in
+    let values = c.self.inside.slots in
+    let found = c.in-Some.ensures in
     spot_found values j c.in-Some.slot.now found
 
 pub returns-in-Some : goal.returns-in-Some
 returns-in-Some c =
     let j = keeper_at Pages in
-    let values = c.self.inside.slots.items in
-    let found = c.in-Some.ensures ∙ ap (λ (l : List (Spot × Value)). found_at l j) c.deref.ensures.value in
+    let values = c.self.inside.slots in
+    let found = c.in-Some.ensures in
     c.free.ensures ∙ ap (λ (v : Value). v.kept) (sym (value_found values j c.in-Some.slot.now found)) ∙ ap (λ (b : Booked). (look_up b.state.values j).kept) c.self.view_is
 
 pub returns-in-None : goal.returns-in-None
 returns-in-None c =
     let j = keeper_at Pages in
-    let values = c.self.inside.slots.items in
-    let none = c.in-None.ensures ∙ ap (λ (l : List (Spot × Value)). found_at l j) c.deref.ensures.value in
+    let values = c.self.inside.slots in
+    let none = c.in-None.ensures in
     c.self.invariant.1 ∙ ap (λ (v : Value). v.kept) (sym (none_found values j none)) ∙ ap (λ (b : Booked). (look_up b.state.values j).kept) c.self.view_is

@@ -1,8 +1,6 @@
-use Rattle.std.proofs.Common.{sym, ap, ◌∙◌, List}
-use Rattle.mz_events.specs.Places.{Spot}
+use Rattle.std.proofs.Common.{sym, ap, ◌∙◌}
 use Rattle.mz_events.specs.State.{Value, kept_at}
 use Rattle.mz_history.specs.Booked.{Booked}
-use Rattle.mz_spots.specs.SlotLists.{found_at}
 use Rattle.mz_history.proofs.BookLemmas.{value_found, none_found}
 use Rattle.mz_spots.specs.Keys.{spot_of_key}
 use Rattle.std.specs.Prelude.{◌==◌}
@@ -12,13 +10,13 @@ use Rattle.mz_history.proofs.books.Books.has_no_runs.Goals as goal
 pub returns-in-Some : goal.returns-in-Some
 returns-in-Some c =
     let j = spot_of_key c.args.key in
-    let values = c.self.inside.slots.items in
-    let found = c.in-Some.ensures ∙ ap (λ (l : List (Spot × Value)). found_at l j) c.deref.ensures.value in
+    let values = c.self.inside.slots in
+    let found = c.in-Some.ensures in
     c.has_no_runs.ensures ∙ ap (λ (v : Value). length v.kept.runs == 0) (sym (value_found values j c.in-Some.slot.now found)) ∙ ap (λ (b : Booked). length (kept_at b.state j).runs == 0) c.self.view_is
 
 pub returns-in-None : goal.returns-in-None
 returns-in-None c =
     let j = spot_of_key c.args.key in
-    let values = c.self.inside.slots.items in
-    let none = c.in-None.ensures ∙ ap (λ (l : List (Spot × Value)). found_at l j) c.deref.ensures.value in
+    let values = c.self.inside.slots in
+    let none = c.in-None.ensures in
     ap (λ (v : Value). length v.kept.runs == 0) (sym (none_found values j none)) ∙ ap (λ (b : Booked). length (kept_at b.state j).runs == 0) c.self.view_is

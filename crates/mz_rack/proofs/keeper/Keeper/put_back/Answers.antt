@@ -80,4 +80,3 @@ returns-in-Ok-strip c = λ x p d k s q l.
     subst (λ (a : AnyRegion). StandsForPages (stock_of c.back-in-Ok-strip.new.self n (vec_len c.push_reserved-in-Ok-strip.new.self)) x p Pages (pages_with d (run_in a) k)) (sym c.in-Small.is)
     (come_back x p k b n m c.stock-in-Ok-strip.invariant.0 st c.a_run_is_read.ensures d 512 c.back-in-Ok-strip.new.self n (vec_len c.push_reserved-in-Ok-strip.new.self) c.in-Ok-strip.span c.in-Small.region c.in-Ok-strip.ensures.2 (ap (λ y. y / PAGE) c.in-Ok-strip.ensures.3) c.back-in-Ok-strip.ensures.freed lacked.taken lacked.there lacked.below lacked.tiny lacked.small
     (no_more n ∙ ap (λ y. n + one_for y) (sym kinds.0)) (c.push_reserved-in-Ok-strip.ensures.len ∙ ap (λ y. m + one_for y) (sym kinds.1)))
-

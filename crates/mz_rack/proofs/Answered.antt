@@ -13,7 +13,7 @@ use Rattle.mz_ground.specs.Views.{SpanView}
 use Rattle.mz_events.specs.declared.place.Place.{Place}
 use Rattle.mz_events.specs.declared.place.Place.TheVariants.{Tiny, Small}
 use Rattle.mz_events.specs.declared.event.Event.{Event}
-use Rattle.mz_events.specs.declared.event.Event.TheVariants.{Take, Back, Move, New, Full, Dry}
+use Rattle.mz_events.specs.declared.event.Event.TheVariants.{Take, Move, New, Full, Dry}
 use Rattle.mz_events.specs.declared.entry.Entry.{Entry}
 use Rattle.mz_events.specs.Places.{is_magazine, is_nano, depot_of, keeper_at, nano_page, same_spot, spot_of, spot_at}
 use Rattle.mz_events.specs.State.{State, opening, value_at}
@@ -216,8 +216,7 @@ module _ (L : BookLaws) (M : MomentLaws) (s t : Account) (w : Way) (z n al : ℕ
       told (null_in_range a b c fs e fl k g) =
           let x : a ≡ m = cc in
           let y : b ≡ d = cc in
-          let u : c ≡ p = cc in
-          (
+          let u : c ≡ p = cc in (
             ap (λ es. is_large_full (events es)) e ∙ (L.depot s.profile w.magazine way.way.magazine).magazine.not_large,
             (
               map (λ v. v.ticket) fs,

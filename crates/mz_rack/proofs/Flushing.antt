@@ -1,24 +1,20 @@
 -- The pages are dry, and the run that large cached first goes back to them.
-use Rattle.std.proofs.Common.{◌≡◌, ◌⊎◌, ℕ, ◌+◌, ◌*◌, ◌<◌, ◌≤◌, ◌==◌, true, false, not, List, [], ◌∷◌, ◌++◌, length, map, refl, ap, sym, subst, ◌∙◌, arith, inl, inr, ⊎_elim, Some, None}
-use Rattle.std.specs.Prelude.{◌||◌, slice_get}
-use Rattle.std.specs.List.{All, Contains}
-use Rattle.std.proofs.lemmas.Bool.{false≢true}
+use Rattle.std.proofs.Common.{◌≡◌, ℕ, ◌+◌, ◌<◌, ◌≤◌, true, false, List, [], ◌∷◌, ◌++◌, length, refl, ap, sym, subst, ◌∙◌, arith, inr, ⊎_elim, Some, None}
+use Rattle.std.specs.List.{Contains}
 use Rattle.std.proofs.lemmas.List.{append_assoc}
 use Rattle.std.proofs.lemmas.List.Elements.{All-nil, Contains-append_cases, Contains-append_right}
 use Rattle.mz_base.specs.Room.{has_free}
-use Rattle.mz_base.specs.Space.{Run, run_at}
+use Rattle.mz_base.specs.Space.{Run}
 use Rattle.mz_ground.specs.Views.{SpanView}
 use Rattle.mz_large.specs.Large.{run_of_span}
-use Rattle.mz_events.specs.declared.place.Place.{Place}
-use Rattle.mz_events.specs.declared.place.Place.TheVariants.{Pages, Large}
+use Rattle.mz_events.specs.declared.place.Place.TheVariants.{Large}
 use Rattle.mz_events.specs.declared.event.Event.{Event}
 use Rattle.mz_events.specs.declared.event.Event.TheVariants.{Back, Dry}
 use Rattle.mz_events.specs.declared.entry.Entry.{Entry}
-use Rattle.mz_events.specs.Places.{nano_start, Spot, same_spot, spot_of}
+use Rattle.mz_events.specs.Places.{nano_start, Spot, same_spot}
 use Rattle.mz_events.specs.State.{Kept, Value, opening}
 use Rattle.mz_events.specs.History.{AreLawful}
 use Rattle.mz_events.specs.Duties.{back_of_oldest, is_that}
-use Rattle.mz_events.specs.Effect.{touches, touched}
 use Rattle.mz_events.specs.Changes.{without_run, pages_with}
 use Rattle.mz_events.specs.Leaving.{left_by}
 use Rattle.mz_events.specs.Hands.{own}
@@ -31,7 +27,7 @@ use Rattle.mz_rack.specs.declared.way.Way.{Way}
 use Rattle.mz_rack.specs.BookLaws.{BookLaws}
 use Rattle.mz_rack.specs.Ways.{IsWay}
 use Rattle.mz_rack.specs.Flushing.{IsOldest, IsLackedRun}
-use Rattle.mz_rack.specs.Stages.{at_magazine, at_depot, at_large, at_pages, AllHeld, IsDried}
+use Rattle.mz_rack.specs.Stages.{at_magazine, at_depot, at_large, at_pages}
 use Rattle.mz_rack.specs.FreeStages.{IsLast}
 use Rattle.mz_rack.specs.Seeking.{CanSeek, dry_at, IsFlushed, IsEmpty}
 use Rattle.mz_rack.proofs.Steps.{same_spot_refl, two_spots, held_at, learn_touched, learn_other, can_note, test_below, zone_below, four_k, four_d, four_l, four_p, holds_all}

@@ -1,6 +1,6 @@
 -- What the calls of large answer, for each place for which its keeper stands.
 use Rattle.std.proofs.Common.{◌≡◌, ◌⊎◌, ℕ, ◌≤◌, true, false, Bool, List, [], ◌∷◌, Option, None, Some, ap, sym, subst, ◌∙◌, inl, inr}
-use Rattle.std.specs.Prelude.{MatchOption, IsTrue, if◌then◌else◌}
+use Rattle.std.specs.Prelude.{MatchOption, if◌then◌else◌}
 use Rattle.std.specs.List.{list_all}
 use Rattle.std.proofs.lemmas.Bool.{false≢true}
 use Rattle.mz_base.specs.declared.profile.Profile.{Profile}

@@ -1,18 +1,16 @@
 -- The pages are searched, with as many flushes as it takes.
-use Rattle.std.proofs.Common.{◌≡◌, ℕ, ◌+◌, ◌-◌, ◌*◌, ◌≤◌, true, List, [], ◌∷◌, ◌++◌, length, refl, ap, sym, subst, ◌∙◌, arith, inl, inr}
+use Rattle.std.proofs.Common.{ℕ, [], ◌∷◌, ◌++◌, length, refl, ap, sym, subst, ◌∙◌, arith, inl, inr}
 use Rattle.std.specs.Prelude.{Result, Ok, Err}
 use Rattle.std.proofs.lemmas.List.{append_assoc}
 use Rattle.std.proofs.lemmas.List.Elements.{All-nil, All-cons}
-use Rattle.mz_base.specs.Space.{run_end}
 use Rattle.mz_events.specs.declared.place.Place.TheVariants.{Pages, Large}
 use Rattle.mz_events.specs.declared.event.Event.TheVariants.{Back}
 use Rattle.mz_events.specs.declared.entry.Entry.{Entry}
-use Rattle.mz_events.specs.State.{Value, opening}
+use Rattle.mz_events.specs.State.{opening}
 use Rattle.mz_events.specs.History.{AreLawful}
 use Rattle.mz_events.specs.Standing.{Keeping}
 use Rattle.mz_record.specs.Moments.{MeetsDuty}
-use Rattle.mz_record.specs.Served.{AreFlushes}
-use Rattle.mz_book.specs.Account.{Account, state_of, known, entry_at}
+use Rattle.mz_book.specs.Account.{Account, known, entry_at}
 use Rattle.mz_book.specs.Growth.{GrowsHolding}
 use Rattle.mz_rack.specs.declared.way.Way.{Way}
 use Rattle.mz_rack.specs.declared.region.AnyRegion.{AnyRegion}
@@ -20,7 +18,7 @@ use Rattle.mz_rack.specs.BookLaws.{BookLaws}
 use Rattle.mz_rack.specs.Ways.{IsWay}
 use Rattle.mz_rack.specs.Asking.{MayTake}
 use Rattle.mz_rack.specs.Answering.{IsCut}
-use Rattle.mz_rack.specs.Stages.{at_large, at_pages, Keeps, IsFlush}
+use Rattle.mz_rack.specs.Stages.{at_pages, Keeps, IsFlush}
 use Rattle.mz_rack.specs.Seeking.{CanSeek, IsFlushed, IsEmpty, Sought, dry_at, last_dry}
 
 module _ (L : BookLaws) (w : Way) (s : Account) (k : CanSeek s w) where

@@ -1,21 +1,20 @@
 -- Large and the pages are held too.
-use Rattle.std.proofs.Common.{◌≡◌, ℕ, ◌*◌, ◌%◌, ◌<◌, ◌≤◌, ◌==◌, true, false, [], ◌∷◌, ◌++◌, refl, ap, sym, subst, ◌∙◌, arith, ⊎_elim, None}
+use Rattle.std.proofs.Common.{◌≡◌, ℕ, ◌*◌, ◌%◌, ◌<◌, ◌≤◌, ◌==◌, true, false, [], ◌∷◌, ◌++◌, refl, ap, sym, subst, ◌∙◌, arith, None}
 use Rattle.std.specs.Prelude.{◌&&◌, ◌||◌, nat_le, Ok, Err}
 use Rattle.std.specs.List.{list_all}
 use Rattle.std.proofs.lemmas.Bool.{false≢true, and_parts}
 use Rattle.std.proofs.lemmas.Bool.Decides.{nat_tests}
 use Rattle.mz_base.specs.declared.range.TheConstants.{PAGE}
 use Rattle.mz_base.specs.Space.{Run, run_at, runs_apart}
-use Rattle.mz_base.specs.Room.{has_free, is_free, is_lowest_free}
+use Rattle.mz_base.specs.Room.{is_free, is_lowest_free}
 use Rattle.mz_ground.specs.Views.{SpanView}
 use Rattle.mz_events.specs.declared.place.Place.{Place}
 use Rattle.mz_events.specs.declared.place.Place.TheVariants.{Pages, Tiny, Small, Large}
-use Rattle.mz_events.specs.declared.event.Event.TheVariants.{Take, New, Full, Dry}
+use Rattle.mz_events.specs.declared.event.Event.TheVariants.{Take, New, Full}
 use Rattle.mz_events.specs.Places.{is_magazine, is_depot, is_size_of, is_length_of, depot_of, nano_start, Spot, same_spot, spot_of}
 use Rattle.mz_events.specs.State.{Value, opening, nothing_kept}
 use Rattle.mz_events.specs.History.{AreLawful}
 use Rattle.mz_events.specs.Locality.{reads}
-use Rattle.mz_events.specs.Duties.{back_of_oldest}
 use Rattle.mz_events.specs.Changes.{with_region, with_run, pages_without}
 use Rattle.mz_events.specs.Standing.{Keeping, Stands}
 use Rattle.mz_book.specs.Keepers.{is_held}
@@ -28,9 +27,9 @@ use Rattle.mz_rack.specs.declared.region.AnyRegion.{AnyRegion}
 use Rattle.mz_rack.specs.Regions.{run_in, view_in}
 use Rattle.mz_rack.specs.BookLaws.{BookLaws}
 use Rattle.mz_rack.specs.Ways.{IsWay}
-use Rattle.mz_rack.specs.Asking.{IsTidy, MayAdopt, MayTake}
+use Rattle.mz_rack.specs.Asking.{IsTidy, MayAdopt}
 use Rattle.mz_rack.specs.Answering.{IsCut}
-use Rattle.mz_rack.specs.Stages.{at_magazine, at_depot, at_large, at_pages, Keeps, HasRoom, Ready, Tried, AreFull, AllHeld, Seeks, IsFresh, LetsGo, IsDried, AreFlushed, by_fresh_region, null_in_range, Served}
+use Rattle.mz_rack.specs.Stages.{at_magazine, at_depot, at_large, at_pages, Keeps, HasRoom, Ready, Tried, AreFull, Seeks, IsFresh, LetsGo, IsDried, AreFlushed, by_fresh_region, null_in_range, Served}
 use Rattle.mz_rack.specs.Seeking.{CanSeek, Sought, dry_at}
 use Rattle.std.proofs.lemmas.List.{append-nil}
 use Rattle.mz_book.specs.Account.{StandsFor}
@@ -38,7 +37,7 @@ use Rattle.mz_record.specs.Served.{AreFlushes}
 use Rattle.mz_events.specs.declared.entry.Entry.{Entry}
 use Rattle.std.proofs.Common.{List}
 use Rattle.std.specs.Prelude.{Result}
-use Rattle.mz_rack.proofs.Steps.{keeps_at, same_spot_refl, apart_back, two_spots, or_elim, held_at, its_place, learn_touched, learn_other, can_note, can_same, standing, stands_then, test_below, zone_below, two_k, two_d, three_k, three_d, three_l, four_k, four_d, four_l, four_p, holds_all, rest_grows}
+use Rattle.mz_rack.proofs.Steps.{keeps_at, same_spot_refl, apart_back, or_elim, held_at, its_place, learn_touched, learn_other, can_note, can_same, standing, stands_then, zone_below, two_k, two_d, three_k, three_d, three_l, four_k, four_d, four_l, four_p, holds_all, rest_grows}
 use Rattle.mz_rack.proofs.Listed.{all_runs, run_of_all}
 use Rattle.mz_rack.proofs.RoomLemmas.{room_of_region, room_of_fresh}
 use Rattle.mz_rack.proofs.Trying.{power_some, size_some}

@@ -1,11 +1,10 @@
 -- What keepers keep, as numbers and as lists. This project's own.
-use Rattle.std.specs.Prelude.{◌≡◌, ℕ, List, Bool, Option, ◌⊎◌, refl}
+use Rattle.std.specs.Prelude.{◌≡◌, ℕ, List, Bool, ◌⊎◌, refl}
 use Rattle.std.proofs.Common.{inl, inr}
-use Rattle.std.specs.Coded.{Coded, code_by, coded×, coded⊎, coded_ℕ, coded_bool, coded_list, coded_option}
+use Rattle.std.specs.Coded.{Coded, code_by, coded×, coded⊎, coded_ℕ, coded_bool, coded_list}
 use base.Stored.{coded_unit}
 use Rattle.mz_base.specs.Site.{Site, site_code}
 use Rattle.mz_events.specs.State.{Kept, nothing_kept}
-use Rattle.mz_events.specs.Codes.{kept_code}
 use Rattle.mz_events.specs.Standing.{RegionsKept, LargeKept, PagesKept, Keeping, of_regions, of_large, of_pages, of_nothing}
 use Rattle.mz_magazine.specs.Keeping.{keeping_code}
 use Rattle.mz_large.specs.Large.{large_code}

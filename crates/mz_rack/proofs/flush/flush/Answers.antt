@@ -1,4 +1,4 @@
-use Rattle.std.proofs.Common.{◌≡◌, ℕ, ◌/◌, ◌≤◌, length, sym, ap, subst, ◌∙◌, arith}
+use Rattle.std.proofs.Common.{◌≡◌, ℕ, ◌/◌, length, sym, ap, subst, ◌∙◌, arith}
 use Rattle.mz_base.specs.declared.range.TheConstants.{PAGE}
 use Rattle.mz_events.specs.declared.place.Place.TheVariants.{Pages, Large}
 use Rattle.mz_events.specs.declared.event.Event.TheVariants.{Back}

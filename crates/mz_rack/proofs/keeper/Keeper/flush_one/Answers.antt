@@ -1,4 +1,4 @@
-use Rattle.std.proofs.Common.{sym, ap, subst}
+use Rattle.std.proofs.Common.{sym, subst}
 use Rattle.mz_events.specs.declared.place.Place.TheVariants.{Large}
 use Rattle.mz_events.specs.Standing.{Stands}
 use Rattle.mz_rack.specs.Kinds.{keeping_of}

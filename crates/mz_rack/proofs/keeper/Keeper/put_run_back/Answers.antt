@@ -1,8 +1,7 @@
-use Rattle.std.proofs.Common.{◌≡◌, ℕ, ◌+◌, ◌/◌, vec_len, [], refl, arith}
+use Rattle.std.proofs.Common.{◌≡◌, ℕ, ◌+◌, vec_len, [], refl, arith}
 use Rattle.mz_ground.specs.Views.{SpanView}
 use Rattle.mz_region.specs.Views.{RegionView}
 use Rattle.mz_events.specs.declared.place.Place.TheVariants.{Pages, Large}
-use Rattle.mz_base.specs.declared.range.TheConstants.{PAGE}
 use Rattle.mz_rack.proofs.StockLemmas.{of_stock, stock_of, pages_below, come_back}
 use Rattle.mz_rack.proofs.keeper.Keeper.put_run_back.Goals as goal
 

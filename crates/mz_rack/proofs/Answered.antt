@@ -1,9 +1,10 @@
 -- What serves a request is what the record of a request may be.
 use Rattle.std.proofs.Common.{◌≡◌, ℕ, zero, suc, ◌+◌, true, false, List, [], ◌∷◌, ◌++◌, length, map, take, refl, ap, sym, subst, ◌∙◌, arith, inl, inr, Some, None, ⊎_elim}
 use Rattle.std.specs.Prelude.{◌⊎◌, ◌&&◌, not, Result, Ok, Err, slice_get, if◌then◌else◌}
-use Rattle.std.specs.List.{Contains, list_all}
-use Rattle.std.proofs.lemmas.Bool.{false≢true}
-use Rattle.std.proofs.lemmas.List.Elements.{Contains-append_cases}
+use Rattle.std.specs.List.{All, Contains, list_all}
+use Rattle.std.proofs.lemmas.Bool.{false≢true, and_from}
+use Rattle.std.proofs.lemmas.List.Elements.{All-nil, All-cons, All-head, All-tail, All-append, All-weaker, All-contains, Contains-append_cases}
+use Rattle.std.proofs.lemmas.List.{map-append}
 use Rattle.std.proofs.lemmas.List.Folds.{list_all-map}
 use Rattle.mz_base.specs.declared.profile.Profile.{Profile}
 use Rattle.mz_base.specs.Sizes.{good_size_of}
@@ -19,7 +20,7 @@ use Rattle.mz_events.specs.State.{State, opening, value_at}
 use Rattle.mz_events.specs.Effect.{touches}
 use Rattle.mz_events.specs.History.{AreLawful, after_entry, after_all}
 use Rattle.mz_record.specs.Moments.{state_before, duty_left, first_some}
-use Rattle.mz_record.specs.Served.{Request, Regional, events, IsUndisturbed}
+use Rattle.mz_record.specs.Served.{Request, Regional, events, AreFlushes, IsUndisturbed}
 use Rattle.mz_record.specs.Served.{IsServed as RecordServed, by_magazine as record_by_magazine, by_depot as record_by_depot, by_fresh_region as record_by_fresh_region, null_in_range as record_null_in_range}
 use Rattle.mz_book.specs.Account.{Account, state_of, known, HoldsNothing, holds_spot, entry_at}
 use Rattle.mz_book.specs.Calls.{is_at_nano}
@@ -32,7 +33,7 @@ use Rattle.mz_rack.specs.Lots.{LotView}
 use Rattle.mz_rack.specs.BookLaws.{BookLaws}
 use Rattle.mz_rack.specs.Ways.{IsWayFor, request_of}
 use Rattle.mz_rack.specs.Serving.{keepers_for, block_got, is_large_full, TellsTickets, IsAnswer, Answers}
-use Rattle.mz_rack.specs.Stages.{at_large, at_pages, IsDried, IsServed, by_magazine, by_depot, by_fresh_region, null_in_range, IsGot, Served}
+use Rattle.mz_rack.specs.Stages.{at_large, at_pages, IsDried, IsFlush, AreFlushed, IsServed, by_magazine, by_depot, by_fresh_region, null_in_range, IsGot, Served}
 use Rattle.mz_rack.proofs.Undisturbed.{AreIndices, indices_behind, not_below, in_front, own_in, then_alone}
 
 abbrev pub lot_of : ℕ → Result SpanView Null → Result LotView Null
@@ -64,26 +65,6 @@ event_in : (es : List Entry) (e : Entry) → Contains es e → Contains (events 
 event_in [] e (k, l, is) = absurd (omega arith)
 event_in (y ∷ es) e (zero, l, is) = (zero, omega arith, ap (λ (x : Entry). x.event) is)
 event_in (y ∷ es) e (suc k, l, is) = let z = event_in es e (k, omega arith, is) in (suc z.0, omega (arith, z.1), z.2)
-
--- a list of four events is that of four entries
-pub record AreFour (es : List Entry) (a b c d : Event) : Type 0 where
-  pub w : Entry
-  pub x : Entry
-  pub y : Entry
-  pub z : Entry
-  pub is : es ≡ w ∷ x ∷ y ∷ z ∷ []
-  pub first : w.event ≡ a
-  pub second : x.event ≡ b
-  pub third : y.event ≡ c
-  pub fourth : z.event ≡ d
-
-are_four : (es : List Entry) (a b c d : Event) → events es ≡ a ∷ b ∷ c ∷ d ∷ [] → AreFour es a b c d
-are_four [] a b c d h = absurd (cc)
-are_four (e ∷ []) a b c d h = absurd (cc)
-are_four (e ∷ f ∷ []) a b c d h = absurd (cc)
-are_four (e ∷ f ∷ g ∷ []) a b c d h = absurd (cc)
-are_four (e ∷ f ∷ g ∷ i ∷ []) a b c d h = record { w = e; x = f; y = g; z = i; is = refl; first = cc; second = cc; third = cc; fourth = cc }
-are_four (e ∷ f ∷ g ∷ i ∷ j ∷ es) a b c d h = absurd (cc)
 
 pub get_at : (xs : List Entry) (e : Entry) (ys : List Entry) → slice_get (xs ++ e ∷ ys) (length xs) ≡ Some e
 get_at [] e ys = refl
@@ -126,27 +107,30 @@ module _ (L : BookLaws) (M : MomentLaws) (s t : Account) (w : Way) (z n al : ℕ
   block_is : (x : SpanView) (got : Result SpanView Null) → got ≡ Ok x → IsGot t w size got → block_got (lot_of z got) ≡ Some (block_at x.first size)
   block_is x got g is = subst (λ o. IsGot t w size o → block_got (lot_of z o) ≡ Some (block_at x.first size)) (sym g) (λ y. ap (λ l. Some (block_at x.first l)) y.1) is
 
+  flushes_are : t.profile ≡ s.profile → (flushes : List Entry) → AreFlushed t w flushes → AreFlushes s.profile t.seen z w.pages w.pages flushes
+  flushes_are ep flushes fl = subst (λ y. AreFlushes s.profile t.seen y w.pages w.pages flushes) way.in_zone (subst (λ p. AreFlushes p t.seen w.zone w.pages w.pages flushes) ep fl.are)
+
   -- it is served in one of the ways of a record
-  served_as : t.profile ≡ s.profile → t.caller ≡ s.caller → (es : List Entry) (holds : ℕ) (got : Result SpanView Null) → IsServed s.caller w size al es holds got → IsGot t w size got
+  served_as : t.profile ≡ s.profile → t.caller ≡ s.caller → (es : List Entry) (holds : ℕ) (got : Result SpanView Null) → IsServed s.caller t w size al es holds got → IsGot t w size got
       → RecordServed s.profile t.seen request es (block_got (lot_of z got))
   served_as ep ec es holds got (by_magazine x e k g) is = record_by_magazine regional x.first (way.serves al) e (block_is x got g is)
   served_as ep ec es holds got (by_depot x f e k g) is =
       record_by_depot regional x.first f (way.serves al) (subst (λ d. events es ≡ Full w.magazine size al ∷ Move f d w.magazine ∷ New w.magazine x.first size al ∷ []) way.way.depot e) (block_is x got g is)
-  served_as ep ec es holds got (by_fresh_region x f e k g) is =
-      let four = are_four es _ _ _ _ e in
-      record_by_fresh_region regional x.first f (four.w ∷ four.x ∷ []) [] (four.y ∷ four.z ∷ []) (way.serves al) four.is
-      (ap (λ y. y ∷ four.x.event ∷ []) four.first ∙ ap (λ y. Full w.magazine size al ∷ y ∷ []) (four.second ∙ ap (λ d. Full d size al) way.way.depot))
-      tt
-      (ap (λ y. y ∷ four.z.event ∷ []) four.third ∙ ap (λ y. Take w.magazine f w.pages ∷ y ∷ []) four.fourth)
+  served_as ep ec es holds got (by_fresh_region x f m d i j flushes e fl k g) is =
+      record_by_fresh_region regional x.first f (entry_at m s.caller (Full w.magazine size al) ∷ entry_at d s.caller (Full w.depot size al) ∷ []) flushes
+      (entry_at i s.caller (Take w.magazine f w.pages) ∷ entry_at j s.caller (New w.magazine x.first size al) ∷ []) (way.serves al) e
+      (ap (λ y. Full w.magazine size al ∷ Full y size al ∷ []) way.way.depot)
+      (flushes_are ep flushes fl)
+      refl
       (block_is x got g is)
-  served_as ep ec es holds got (null_in_range m d i e k g) is =
+  served_as ep ec es holds got (null_in_range m d i flushes e fl k g) is =
       let dried : IsDried t w i = subst (λ o. IsGot t w size o) g is in
       let last = last_calm L M t w i lawful dried in
       let calm : duty_left s.profile t.seen (entry_at i s.caller (Dry w.zone w.pages w.pages)) ≡ None =
       subst (λ c. duty_left s.profile t.seen (entry_at i c (Dry w.zone w.pages w.pages)) ≡ None) ec (subst (λ p. duty_left p t.seen (entry_at i t.caller (Dry w.zone w.pages w.pages)) ≡ None) ep last) in
-      record_null_in_range regional (entry_at m s.caller (Full w.magazine size al) ∷ entry_at d s.caller (Full w.depot size al) ∷ []) [] (entry_at i s.caller (Dry w.zone w.pages w.pages)) (way.serves al) e
+      record_null_in_range regional (entry_at m s.caller (Full w.magazine size al) ∷ entry_at d s.caller (Full w.depot size al) ∷ []) flushes (entry_at i s.caller (Dry w.zone w.pages w.pages)) (way.serves al) e
       (ap (λ y. Full w.magazine size al ∷ Full y size al ∷ []) way.way.depot)
-      tt
+      (flushes_are ep flushes fl)
       (record { event = ap (λ y. Dry y w.pages w.pages) way.in_zone; no_duty = calm })
       (ap (λ o. block_got (lot_of z o)) g)
 
@@ -179,15 +163,35 @@ module _ (L : BookLaws) (M : MomentLaws) (s t : Account) (w : Way) (z n al : ℕ
   pick i [] h e (k, l, is) = absurd (omega arith)
   pick i (a ∷ es) h e there = ⊎_elim (λ (is : e ≡ a). ap (λ v. touches s.profile v (nano_page i)) is ∙ h.0) (λ (r : Contains es e). pick i es h.1 e r) (first_or a es e there)
 
+  off_flush : (i : ℕ) (e : Event) → IsFlush w e → IsOff i e
+  off_flush i e (inl is) = ap (λ v. touches s.profile v (nano_page i)) is ∙ off_dry i
+  off_flush i e (inr (f, n, is)) = ap (λ v. touches s.profile v (nano_page i)) is
+
+  off_both : (i : ℕ) (a b : Entry) (flushes back : List Entry) → IsOff i a.event → IsOff i b.event → AreFlushed t w flushes → All (λ (y : Entry). IsOff i y.event) back → All (λ (y : Entry). IsOff i y.event) (a ∷ b ∷ (flushes ++ back))
+  off_both i a b flushes back first second fl last =
+      let P : Entry → Type 0 = λ y. IsOff i y.event in
+      All-cons (λ (y : Entry). IsOff i y.event) a (b ∷ (flushes ++ back)) first
+      (All-cons (λ (y : Entry). IsOff i y.event) b (flushes ++ back) second
+      (All-append (λ (y : Entry). IsOff i y.event) flushes back (All-weaker (λ (y : Entry). IsFlush w y.event) (λ y. IsOff i y.event) (λ y h. off_flush i y.event h) flushes fl.each) last))
+
   -- no event of it touches a page of nano
-  off_nano : (es : List Entry) (holds : ℕ) (got : Result SpanView Null) → IsServed s.caller w size al es holds got → (e : Entry) → Contains es e → (i : ℕ) → touches s.profile e.event (nano_page i) ≡ false
+  off_nano : (es : List Entry) (holds : ℕ) (got : Result SpanView Null) → IsServed s.caller t w size al es holds got → (e : Entry) → Contains es e → (i : ℕ) → touches s.profile e.event (nano_page i) ≡ false
   off_nano es holds got (by_magazine x h k g) e there i = pick i (New w.magazine x.first size al ∷ []) (off_new i x.first, tt) e.event (subst (λ l. Contains l e.event) h (event_in es e there))
   off_nano es holds got (by_depot x f h k g) e there i = pick i (Full w.magazine size al ∷ Move f w.depot w.magazine ∷ New w.magazine x.first size al ∷ []) (off_full i, (off_move i f, (off_new i x.first, tt))) e.event (subst (λ l. Contains l e.event) h (event_in es e there))
-  off_nano es holds got (by_fresh_region x f h k g) e there i = pick i (Full w.magazine size al ∷ Full w.depot size al ∷ Take w.magazine f w.pages ∷ New w.magazine x.first size al ∷ []) (off_full i, (off_depot_full i, (off_take i f, (off_new i x.first, tt)))) e.event (subst (λ l. Contains l e.event) h (event_in es e there))
-  off_nano es holds got (null_in_range m d j h k g) e there i = pick i (Full w.magazine size al ∷ Full w.depot size al ∷ Dry w.zone w.pages w.pages ∷ []) (off_full i, (off_depot_full i, (off_dry i, tt))) e.event (subst (λ l. Contains (events l) e.event) h (event_in es e there))
+  off_nano es holds got (by_fresh_region x f m d a b flushes h fl k g) e there i =
+      All-contains (λ (y : Entry). IsOff i y.event) es e
+      (subst (All (λ (y : Entry). IsOff i y.event)) (sym h) (off_both i (entry_at m s.caller (Full w.magazine size al)) (entry_at d s.caller (Full w.depot size al)) flushes
+      (entry_at a s.caller (Take w.magazine f w.pages) ∷ entry_at b s.caller (New w.magazine x.first size al) ∷ []) (off_full i) (off_depot_full i) fl
+      (All-cons (λ (y : Entry). IsOff i y.event) (entry_at a s.caller (Take w.magazine f w.pages)) (entry_at b s.caller (New w.magazine x.first size al) ∷ []) (off_take i f)
+      (All-cons (λ (y : Entry). IsOff i y.event) (entry_at b s.caller (New w.magazine x.first size al)) [] (off_new i x.first) (All-nil (λ (y : Entry). IsOff i y.event)))))) there
+  off_nano es holds got (null_in_range m d j flushes h fl k g) e there i =
+      All-contains (λ (y : Entry). IsOff i y.event) es e
+      (subst (All (λ (y : Entry). IsOff i y.event)) (sym h) (off_both i (entry_at m s.caller (Full w.magazine size al)) (entry_at d s.caller (Full w.depot size al)) flushes
+      (entry_at j s.caller (Dry w.zone w.pages w.pages) ∷ []) (off_full i) (off_depot_full i) fl
+      (All-cons (λ (y : Entry). IsOff i y.event) (entry_at j s.caller (Dry w.zone w.pages w.pages)) [] (off_dry i) (All-nil (λ (y : Entry). IsOff i y.event))))) there
 
   -- and nobody else touches what it touched
-  undisturbed : (mine : List Entry) (m holds : ℕ) (got : Result SpanView Null) → Grows s mine m t → IsServed s.caller w size al mine holds got → IsUndisturbed s.profile t.seen s.caller mine
+  undisturbed : (mine : List Entry) (m holds : ℕ) (got : Result SpanView Null) → Grows s mine m t → IsServed s.caller t w size al mine holds got → IsUndisturbed s.profile t.seen s.caller mine
   undisturbed mine m holds got grows served e d x (nano_page i) he hd dry hx after before te tx = absurd (false≢true (sym (off_nano mine holds got served e he i) ∙ te))
   undisturbed mine m holds got grows served e d x (keeper_at q) he hd dry hx after before te tx =
       let more = grows.adds.more in
@@ -198,45 +202,63 @@ module _ (L : BookLaws) (M : MomentLaws) (s t : Account) (w : Way) (z n al : ℕ
       (Contains-append_cases s.seen more x (subst (λ h. Contains h x) grows.adds.seen hx)) in
       then_alone s.profile s.caller (keeper_at q) (0 + length s.seen) (holds_spot s (keeper_at q)) more e x tail (grows.undisturbed q) here.0 here.1 te later after tx
 
-  few : (mine : List Entry) (m : ℕ) (got : Result SpanView Null) → Grows s mine m t → IsServed s.caller w size al mine m got → Grows s mine (keepers_for (events mine)) t
+  few : (mine : List Entry) (m : ℕ) (got : Result SpanView Null) → Grows s mine m t → IsServed s.caller t w size al mine m got → Grows s mine (keepers_for (events mine)) t
   few mine m got grows (by_magazine x e k g) = subst (λ j. Grows s mine j t) (k ∙ sym (ap (λ es. keepers_for es) e)) grows
   few mine m got grows (by_depot x f e k g) = subst (λ j. Grows s mine j t) (k ∙ sym (ap (λ es. keepers_for es) e)) grows
-  few mine m got grows (by_fresh_region x f e k g) = subst (λ j. Grows s mine j t) (k ∙ sym (ap (λ es. keepers_for es) e ∙ ap (λ b. if b then 2 else 4) (L.depot s.profile w.magazine way.way.magazine).magazine.not_large)) grows
-  few mine m got grows (null_in_range a d i e k g) = subst (λ j. Grows s mine j t) (k ∙ sym (ap (λ es. keepers_for (events es)) e ∙ ap (λ b. if b then 2 else 4) (L.depot s.profile w.magazine way.way.magazine).magazine.not_large)) grows
+  few mine m got grows (by_fresh_region x f a b c d fs e fl k g) = subst (λ j. Grows s mine j t) (k ∙ sym (ap (λ es. keepers_for (events es)) e ∙ ap (λ b. if b then 2 else 4) (L.depot s.profile w.magazine way.way.magazine).magazine.not_large)) grows
+  few mine m got grows (null_in_range a d i fs e fl k g) = subst (λ j. Grows s mine j t) (k ∙ sym (ap (λ es. keepers_for (events es)) e ∙ ap (λ b. if b then 2 else 4) (L.depot s.profile w.magazine way.way.magazine).magazine.not_large)) grows
 
-  is_answer : (mine : List Entry) (holds : ℕ) (got : Result SpanView Null) → t.site ≡ s.site → IsServed s.caller w size al mine holds got → IsGot t w size got → IsAnswer z s.site mine (lot_of z got)
+  is_answer : (mine : List Entry) (holds : ℕ) (got : Result SpanView Null) → t.site ≡ s.site → IsServed s.caller t w size al mine holds got → IsGot t w size got → IsAnswer z s.site mine (lot_of z got)
   is_answer mine holds (Ok x) es served is = (refl, is.0 ∙ es)
   is_answer mine holds (Err (Ranged m d p)) es served is = told served
     where
-      told : IsServed s.caller w size al mine holds (Err (Ranged m d p)) → TellsTickets (Ranged m d p) mine
-      told (null_in_range a b c e k g) =
+      told : IsServed s.caller t w size al mine holds (Err (Ranged m d p)) → TellsTickets (Ranged m d p) mine
+      told (null_in_range a b c fs e fl k g) =
           let x : a ≡ m = cc in
           let y : b ≡ d = cc in
-          let u : c ≡ p = cc in
-          (ap (λ es. is_large_full (events es)) e ∙ (L.depot s.profile w.magazine way.way.magazine).magazine.not_large, ([], ap (λ es. map (λ v. v.ticket) es) e ∙ (ap (λ v. v ∷ b ∷ c ∷ []) x ∙ (ap (λ v. m ∷ v ∷ c ∷ []) y ∙ ap (λ v. m ∷ d ∷ v ∷ []) u))))
+          let u : c ≡ p = cc in (
+            ap (λ es. is_large_full (events es)) e ∙ (L.depot s.profile w.magazine way.way.magazine).magazine.not_large,
+            (
+              map (λ v. v.ticket) fs,
+              ap (λ es. map (λ v. v.ticket) es) e
+                  ∙ (ap (λ l. a ∷ b ∷ l) (map-append (λ (v : Entry). v.ticket) fs (entry_at c s.caller (Dry w.zone w.pages w.pages) ∷ []))
+                  ∙ (ap (λ v. v ∷ b ∷ (map (λ (q : Entry). q.ticket) fs ++ c ∷ [])) x ∙ (ap (λ v. m ∷ v ∷ (map (λ (q : Entry). q.ticket) fs ++ c ∷ [])) y ∙ ap (λ v. m ∷ d ∷ (map (λ (q : Entry). q.ticket) fs ++ v ∷ [])) u))),
+            ),
+          )
       told (by_magazine x e k g) = absurd (cc)
       told (by_depot x f e k g) = absurd (cc)
-      told (by_fresh_region x f e k g) = absurd (cc)
+      told (by_fresh_region x f a b c e fs h fl k g) = absurd (cc)
   is_answer mine holds (Err (null.Large c p)) es served is = absurd is
 
   -- no event of it is one at nano
-  outside : (es : List Entry) (holds : ℕ) (got : Result SpanView Null) → IsServed s.caller w size al es holds got → list_all (λ v. not (is_at_nano v)) (events es) ≡ true
+  flush_outside : (e : Event) → IsFlush w e → not (is_at_nano e) ≡ true
+  flush_outside e (inl is) = ap (λ v. not (is_at_nano v)) is
+  flush_outside e (inr (f, m, is)) = ap (λ v. not (is_at_nano v)) is
+
+  flushes_outside : (flushes back : List Entry) → All (λ e. IsFlush w e.event) flushes → list_all (λ v. not (is_at_nano v)) (events back) ≡ true → list_all (λ v. not (is_at_nano v)) (events (flushes ++ back)) ≡ true
+  flushes_outside [] back each last = last
+  flushes_outside (e ∷ es) back each last =
+      and_from (not (is_at_nano e.event)) (list_all (λ v. not (is_at_nano v)) (events (es ++ back))) (flush_outside e.event (All-head (λ (x : Entry). IsFlush w x.event) e es each))
+      (flushes_outside es back (All-tail (λ (x : Entry). IsFlush w x.event) e es each) last)
+
+  outside : (es : List Entry) (holds : ℕ) (got : Result SpanView Null) → IsServed s.caller t w size al es holds got → list_all (λ v. not (is_at_nano v)) (events es) ≡ true
   outside es holds got served = each served
     where
       made : (not (is_nano w.magazine) && true) ≡ true
       made = ap (λ b. not b && true) (L.depot s.profile w.magazine way.way.magazine).magazine.not_nano
 
-      each : IsServed s.caller w size al es holds got → list_all (λ v. not (is_at_nano v)) (events es) ≡ true
+      each : IsServed s.caller t w size al es holds got → list_all (λ v. not (is_at_nano v)) (events es) ≡ true
       each (by_magazine x e k g) = ap (list_all (λ v. not (is_at_nano v))) e ∙ made
       each (by_depot x f e k g) = ap (list_all (λ v. not (is_at_nano v))) e ∙ made
-      each (by_fresh_region x f e k g) = ap (list_all (λ v. not (is_at_nano v))) e ∙ made
-      each (null_in_range m d p e k g) = ap (λ vs. list_all (λ v. not (is_at_nano v)) (events vs)) e
+      each (by_fresh_region x f m d i j flushes e fl k g) =
+          ap (λ vs. list_all (λ v. not (is_at_nano v)) (events vs)) e ∙ flushes_outside flushes (entry_at i s.caller (Take w.magazine f w.pages) ∷ entry_at j s.caller (New w.magazine x.first size al) ∷ []) fl.each made
+      each (null_in_range m d p flushes e fl k g) = ap (λ vs. list_all (λ v. not (is_at_nano v)) (events vs)) e ∙ flushes_outside flushes (entry_at p s.caller (Dry w.zone w.pages w.pages) ∷ []) fl.each refl
 
   pub answers : HoldsNothing s → (got : Result SpanView Null) → Served [] 0 s w size al got t → Answers s z n al (lot_of z got) t
   answers nothing got b =
       let same = b.grows.adds.same in
       let zero_more : 0 + b.holds ≡ b.holds = omega arith in
-      let served : IsServed s.caller w size al b.mine b.holds got = subst (λ j. IsServed s.caller w size al b.mine j got) zero_more b.served in
+      let served : IsServed s.caller t w size al b.mine b.holds got = subst (λ j. IsServed s.caller t w size al b.mine j got) zero_more b.served in
       record {
         mine = b.mine;
         grows = few b.mine b.holds got b.grows served;

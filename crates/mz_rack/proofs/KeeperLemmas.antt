@@ -29,7 +29,7 @@ use Rattle.mz_events.specs.Changes.{with_block, with_region, without_run, region
 use Rattle.mz_events.specs.Placement.{is_placed_in_magazine}
 use Rattle.mz_events.specs.Rules.{is_lowest_with_room}
 use Rattle.mz_events.specs.Separation.{InOrder}
-use Rattle.mz_events.specs.Standing.{RegionsKept, PagesKept, Keeping, Stands, StandsForRegions, IsOf}
+use Rattle.mz_events.specs.Standing.{RegionsKept, LargeKept, PagesKept, Keeping, Stands, StandsForRegions, IsOf}
 use Rattle.mz_rack.specs.declared.keeper.Kind.{Kind}
 use Rattle.mz_rack.specs.declared.keeper.Kind.TheVariants as kind
 use Rattle.mz_rack.specs.Kinds.{keeping_of}
@@ -56,23 +56,12 @@ not_large : (q : Place) → is_large q ≡ true → (is_magazine q || is_depot q
 not_large (Large z) a b = false≢true b
 not_large _ a b = false≢true a
 
-pub no_regions : (i : Kind) (n : Keeping) → keeping_of i ≡ n → ((v : PagesKept) × (i ≡ kind.Pages v)) ⊎ (i ≡ kind.Large) → (x : Site) (p : Profile) (q : Place) (k : Kept) → Stands n x p q k → (is_magazine q || is_depot q) ≡ true → ⊥
+pub no_regions : (i : Kind) (n : Keeping) → keeping_of i ≡ n → ((v : PagesKept) × (i ≡ kind.Pages v)) ⊎ ((v : LargeKept) × (i ≡ kind.Large v)) → (x : Site) (p : Profile) (q : Place) (k : Kept) → Stands n x p q k → (is_magazine q || is_depot q) ≡ true → ⊥
 no_regions i n view (inl y) x p q k s h = not_pages q (subst (λ j. Stands (keeping_of j) x p q k) y.1 (subst (λ j. Stands j x p q k) (sym view) s)).kind h
-no_regions i n view (inr y) x p q k s h = not_large q (subst (λ j. Stands (keeping_of j) x p q k) y (subst (λ j. Stands j x p q k) (sym view) s)).kind h
+no_regions i n view (inr y) x p q k s h = not_large q (subst (λ j. Stands (keeping_of j) x p q k) y.1 (subst (λ j. Stands j x p q k) (sym view) s)).kind h
 
 pub placed_then : (x : Site) (p : Profile) (q : Place) (k : Kept) (n al : ℕ) (i j : Kind) (r t : Option SpanView) → j ≡ i → t ≡ r → Placed x q k n al (Stands (keeping_of i) x p q) r → Placed x q k n al (Stands (keeping_of j) x p q) t
 placed_then x p q k n al i j r t same answer h = subst (λ y. Placed x q k n al (Stands (keeping_of y) x p q) t) (sym same) (subst (λ y. Placed x q k n al (Stands (keeping_of i) x p q) y) (sym answer) h)
-
--- LARGE: has no runs
-no_place : (b : Bool) → (if b then false else false) ≡ true → ⊥
-no_place true h = false≢true h
-no_place false h = false≢true h
-
-pub nothing_cached : (k : Kind) (x : Site) (p : Profile) (z : ℕ) (kept : Kept) → Stands (keeping_of k) x p (Large z) kept → kept.cached ≡ []
-nothing_cached (kind.Pages v) x p z kept s = absurd (false≢true s.kind)
-nothing_cached (kind.Tiny v) x p z kept s = absurd (no_place v.depot s.kind)
-nothing_cached (kind.Small v) x p z kept s = absurd (no_place v.depot s.kind)
-nothing_cached kind.Large x p z kept s = ap (λ (j : Kept). j.cached) (sym s.keeps)
 
 -- SIZES: a size of the place is some whole quanta
 tiny_whole : (n : ℕ) → ((n % 16 == 0) && nat_le 16 n && nat_le n 1008) ≡ true → n % 16 ≡ 0

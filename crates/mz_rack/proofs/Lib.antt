@@ -12,10 +12,13 @@ mod Answered
 mod KeeperLemmas
 mod StockLemmas
 mod OpeningLemmas
+mod Asked
 mod Looking
 mod Ended
 mod PuttingAside
 mod GivingBack
 mod Dropping
-mod Asked
+mod Flushing
+mod LargeLemmas
+mod Seeking
 mod TwoZones

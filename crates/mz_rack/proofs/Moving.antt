@@ -100,7 +100,7 @@ module _ (L : BookLaws) (w : Way) (n al : ℕ) where
         grows = L.ended s u y (e ∷ []) b.mine 1 b.holds all b.grows;
         nothing_held = b.nothing_held;
         served = let count : 1 + b.holds ≡ 0 + (1 + b.holds) = omega arith in
-            subst (λ j. IsServed s.caller w n al (e ∷ b.mine) j got) count (subst (λ c. IsServed c w n al (e ∷ b.mine) (1 + b.holds) got) all.grows.adds.same.caller (subst (λ (d : Entry). IsServed u.caller w n al (d ∷ b.mine) (1 + b.holds) got) same b.served));
+            subst (λ j. IsServed s.caller y w n al (e ∷ b.mine) j got) count (subst (λ c. IsServed c y w n al (e ∷ b.mine) (1 + b.holds) got) all.grows.adds.same.caller (subst (λ (d : Entry). IsServed u.caller y w n al (d ∷ b.mine) (1 + b.holds) got) same b.served));
         is = b.is;
       }
 
@@ -253,15 +253,15 @@ module _ (L : BookLaws) (w : Way) (n al : ℕ) where
       let e = entry_at i t.caller d in
       let two : u.caller ≡ t.caller = b.after.grows.adds.same.caller in
       let one : t.caller ≡ s.caller = a.since.grows.adds.same.caller in
-      let moved : IsServed s.caller w n al (entry_at j s.caller f ∷ e ∷ r.mine) (2 + r.holds) got =
-      subst (λ c. IsServed c w n al (entry_at j c f ∷ e ∷ r.mine) (2 + r.holds) got) (two ∙ one)
-      (subst (λ c. IsServed u.caller w n al (entry_at j u.caller f ∷ entry_at i c d ∷ r.mine) (2 + r.holds) got) two r.served) in
+      let moved : IsServed s.caller y w n al (entry_at j s.caller f ∷ e ∷ r.mine) (2 + r.holds) got =
+      subst (λ c. IsServed c y w n al (entry_at j c f ∷ e ∷ r.mine) (2 + r.holds) got) (two ∙ one)
+      (subst (λ c. IsServed u.caller y w n al (entry_at j u.caller f ∷ entry_at i c d ∷ r.mine) (2 + r.holds) got) two r.served) in
       let count : 2 + r.holds ≡ 1 + (1 + r.holds) = omega arith in
       record {
         mine = e ∷ r.mine;
         holds = 1 + r.holds;
         grows = L.ended s u y (e ∷ []) r.mine 1 r.holds b.since r.grows;
         nothing_held = r.nothing_held;
-        served = subst (λ c. IsServed s.caller w n al (entry_at j s.caller f ∷ e ∷ r.mine) c got) count moved;
+        served = subst (λ c. IsServed s.caller y w n al (entry_at j s.caller f ∷ e ∷ r.mine) c got) count moved;
         is = r.is;
       }

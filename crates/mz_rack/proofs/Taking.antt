@@ -1,21 +1,20 @@
 -- Large and the pages are held too.
-use Rattle.std.proofs.Common.{◌≡◌, ℕ, ◌*◌, ◌%◌, ◌<◌, ◌≤◌, ◌==◌, true, false, [], ◌∷◌, ◌++◌, refl, ap, sym, subst, ◌∙◌, arith, ⊎_elim, None}
+use Rattle.std.proofs.Common.{◌≡◌, ℕ, ◌*◌, ◌%◌, ◌<◌, ◌≤◌, ◌==◌, true, false, [], ◌∷◌, ◌++◌, refl, ap, sym, subst, ◌∙◌, arith, None}
 use Rattle.std.specs.Prelude.{◌&&◌, ◌||◌, nat_le, Ok, Err}
 use Rattle.std.specs.List.{list_all}
 use Rattle.std.proofs.lemmas.Bool.{false≢true, and_parts}
 use Rattle.std.proofs.lemmas.Bool.Decides.{nat_tests}
 use Rattle.mz_base.specs.declared.range.TheConstants.{PAGE}
 use Rattle.mz_base.specs.Space.{Run, run_at, runs_apart}
-use Rattle.mz_base.specs.Room.{has_free, is_free, is_lowest_free}
+use Rattle.mz_base.specs.Room.{is_free, is_lowest_free}
 use Rattle.mz_ground.specs.Views.{SpanView}
 use Rattle.mz_events.specs.declared.place.Place.{Place}
 use Rattle.mz_events.specs.declared.place.Place.TheVariants.{Pages, Tiny, Small, Large}
-use Rattle.mz_events.specs.declared.event.Event.TheVariants.{Take, New, Full, Dry}
+use Rattle.mz_events.specs.declared.event.Event.TheVariants.{Take, New, Full}
 use Rattle.mz_events.specs.Places.{is_magazine, is_depot, is_size_of, is_length_of, depot_of, nano_start, Spot, same_spot, spot_of}
 use Rattle.mz_events.specs.State.{Value, opening, nothing_kept}
 use Rattle.mz_events.specs.History.{AreLawful}
 use Rattle.mz_events.specs.Locality.{reads}
-use Rattle.mz_events.specs.Duties.{back_of_oldest}
 use Rattle.mz_events.specs.Changes.{with_region, with_run, pages_without}
 use Rattle.mz_events.specs.Standing.{Keeping, Stands}
 use Rattle.mz_book.specs.Keepers.{is_held}
@@ -28,17 +27,24 @@ use Rattle.mz_rack.specs.declared.region.AnyRegion.{AnyRegion}
 use Rattle.mz_rack.specs.Regions.{run_in, view_in}
 use Rattle.mz_rack.specs.BookLaws.{BookLaws}
 use Rattle.mz_rack.specs.Ways.{IsWay}
-use Rattle.mz_rack.specs.Asking.{IsTidy, MayAdopt, MayTake}
+use Rattle.mz_rack.specs.Asking.{IsTidy, MayAdopt}
 use Rattle.mz_rack.specs.Answering.{IsCut}
-use Rattle.mz_rack.specs.Stages.{at_magazine, at_depot, at_large, at_pages, Keeps, HasRoom, Ready, Tried, AreFull, AllHeld, Seeks, IsFresh, LetsGo, IsDried, by_fresh_region, null_in_range, Served}
-use Rattle.mz_rack.proofs.Steps.{same_spot_refl, apart_back, two_spots, or_elim, held_at, its_place, learn_touched, learn_other, can_note, can_same, standing, stands_then, test_below, zone_below, two_k, two_d, three_k, three_d, three_l, four_k, four_d, four_l, four_p, holds_all, rest_grows}
+use Rattle.mz_rack.specs.Stages.{at_magazine, at_depot, at_large, at_pages, Keeps, HasRoom, Ready, Tried, AreFull, Seeks, IsFresh, LetsGo, IsDried, AreFlushed, by_fresh_region, null_in_range, Served}
+use Rattle.mz_rack.specs.Seeking.{CanSeek, Sought, dry_at}
+use Rattle.std.proofs.lemmas.List.{append-nil}
+use Rattle.mz_book.specs.Account.{StandsFor}
+use Rattle.mz_record.specs.Served.{AreFlushes}
+use Rattle.mz_events.specs.declared.entry.Entry.{Entry}
+use Rattle.std.proofs.Common.{List}
+use Rattle.std.specs.Prelude.{Result}
+use Rattle.mz_rack.proofs.Steps.{keeps_at, same_spot_refl, apart_back, or_elim, held_at, its_place, learn_touched, learn_other, can_note, can_same, standing, stands_then, zone_below, two_k, two_d, three_k, three_d, three_l, four_k, four_d, four_l, four_p, holds_all, rest_grows}
 use Rattle.mz_rack.proofs.Listed.{all_runs, run_of_all}
 use Rattle.mz_rack.proofs.RoomLemmas.{room_of_region, room_of_fresh}
 use Rattle.mz_rack.proofs.Trying.{power_some, size_some}
 use Rattle.mz_rack.proofs.Moving.{deed_at, found_full}
 use Rattle.mz_rack.proofs.Tidying.{tidy_of, live_apart}
 
-some_pages : (q : Place) (w : ℕ) → is_magazine q ≡ true → is_length_of q w ≡ true → 1 ≤ w
+pub some_pages : (q : Place) (w : ℕ) → is_magazine q ≡ true → is_length_of q w ≡ true → 1 ≤ w
 some_pages (Tiny y m) w h l = grind (arith, nat_tests, l)
 some_pages (Small y m) w h l = grind (arith, nat_tests, l)
 some_pages _ w h l = absurd (false≢true h)
@@ -102,17 +108,6 @@ module _ (L : BookLaws) (w : Way) (n al : ℕ) where
         same_l = tl;
       }
 
--- the pages are dry
-
-pub record Dried (t : Account) (w : Way) (i : ℕ) (u : Account) : Type 0 where
-  pub since : GrowsHolding t (entry_at i t.caller (Dry w.zone w.pages w.pages) ∷ []) 0 u
-  pub all : AllHeld u w
-  pub kept_k : (known u (at_magazine w)).kept ≡ (known t (at_magazine w)).kept
-  pub kept_d : (known u (at_depot w)).kept ≡ (known t (at_depot w)).kept
-  pub kept_l : (known u (at_large w)).kept ≡ (known t (at_large w)).kept
-  pub kept_p : (known u at_pages).kept ≡ (known t at_pages).kept
-  pub last : IsDried u w i
-
 module _ (L : BookLaws) (w : Way) (n al : ℕ) (t : Account) (k : Seeks t w n al) where
   here : (j : Spot) → is_held t.profile (w.k ∷ w.d ∷ w.l ∷ w.p ∷ []) j ≡ true → holds_spot t j ≡ true
   here j h = holds_all t w j k.all h
@@ -129,57 +124,6 @@ module _ (L : BookLaws) (w : Way) (n al : ℕ) (t : Account) (k : Seeks t w n al
   pub here_p : holds_spot t at_pages ≡ true
   here_p = here at_pages (four_p L t.profile w k.can.way)
 
-  pub can_dry : t.caller < t.profile.callers → 1 ≤ t.spare → has_free (nano_start t.profile) (known t at_pages).kept.taken w.pages w.pages ≡ false → CanNote t (Dry w.zone w.pages w.pages)
-  can_dry c room none =
-      let way = k.can.way in
-      let some = some_pages w.magazine w.pages way.magazine way.region in
-      can_note t (Dry w.zone w.pages w.pages) room refl refl refl
-      (λ j y. ⊎_elim (λ (e : j ≡ at_pages). held_at t j at_pages e here_p) (λ (e : j ≡ at_large w). held_at t j (at_large w) e here_l) (two_spots L j at_pages (at_large w) y))
-      (((L.fits t.profile (state_of t) t.caller).dry w.zone w.pages w.pages).1 (record {
-        caller = c;
-        zone = test_below w.zone t.profile.zones (zone_below L t.profile w way);
-        zone_open = k.can.zone_open;
-        calm = k.all.calm_p;
-        large_calm = k.all.calm_l;
-        some = some;
-        some_alignment = some;
-        none_free = none;
-      }))
-
-  pub dried : (i : ℕ) (u : Account) → (known t (at_large w)).kept.cached ≡ [] → CanNote t (Dry w.zone w.pages w.pages) → Notes t (Dry w.zone w.pages w.pages) i u → Dried t w i u
-  dried i u empty can h =
-      let way = k.can.way in
-      let kinds = L.depot t.profile w.magazine way.magazine in
-      let e = Dry w.zone w.pages w.pages in
-      let none : back_of_oldest (Large w.zone) (known t (at_large w)).kept.cached ≡ None = ap (λ z. back_of_oldest (Large w.zone) z) empty in
-      let since = L.note t u e i can refl h in
-      let at_p = learn_touched t e i u at_pages h here_p refl ∙ (L.leaves (state_of t) t.caller).dry w.zone w.pages w.pages at_pages in
-      let at_l = learn_touched t e i u (at_large w) h here_l (rw (same_spot_refl L (at_large w)) refl) ∙ (L.leaves (state_of t) t.caller).dry w.zone w.pages w.pages (at_large w) in
-      let at_k = learn_other t e i u (at_magazine w) h here_k (rw (kinds.magazine.apart_from_pages, kinds.magazine.apart_from_large w.zone) refl) in
-      let at_d = learn_other t e i u (at_depot w) h here_d (rw (kinds.depot.apart_from_pages, kinds.depot.apart_from_large w.zone) refl) in
-      let calm_p : (known u at_pages).duty ≡ None = ap (λ (v : Value). v.duty) at_p ∙ none in
-      let calm_l : (known u (at_large w)).duty ≡ None = ap (λ (v : Value). v.duty) at_l ∙ none in
-      record {
-        since = since;
-        all = record {
-          held = ap (λ (v : Account). v.held) h.after ∙ k.all.held;
-          calm_k = ap (λ (v : Value). v.duty) at_k ∙ k.all.calm_k;
-          calm_d = ap (λ (v : Value). v.duty) at_d ∙ k.all.calm_d;
-          calm_l = calm_l;
-          calm_p = calm_p;
-        };
-        kept_k = ap (λ (v : Value). v.kept) at_k;
-        kept_d = ap (λ (v : Value). v.kept) at_d;
-        kept_l = ap (λ (v : Value). v.kept) at_l;
-        kept_p = ap (λ (v : Value). v.kept) at_p;
-        last = record {
-          before = t.seen ++ h.others;
-          seen = ap (λ (v : Account). v.seen) h.after ∙ ap (λ c. (t.seen ++ h.others) ++ entry_at i c e ∷ []) (sym since.grows.adds.same.caller);
-          calm_p = calm_p;
-          calm_l = calm_l;
-        };
-      }
-
   -- a run is taken
 
   take_reads : (f : ℕ) (j : Spot) → reads t.profile (Take w.magazine f w.pages) j ≡ true → holds_spot t j ≡ true
@@ -189,22 +133,6 @@ module _ (L : BookLaws) (w : Way) (n al : ℕ) (t : Account) (k : Seeks t w n al
       (λ z. or_elim (same_spot j at_pages) false (λ x. held_at t j at_pages ((L.spots j at_pages).0 x) here_p) (λ x. absurd (false≢true x)) z) y)
       (λ y. held_at t j (at_depot w) ((L.spots j (at_depot w)).0 y) here_d)
       h
-
-  pub may_take : AreLawful t.profile opening t.seen → (v : Keeping) → Keeps t Pages v → MayTake v w.pages
-  may_take lawful v h =
-      let fit = L.regions_fit t.profile t.seen lawful in
-      record {
-        space = t.site;
-        profile = t.profile;
-        magazine = w.magazine;
-        kept = (known t at_pages).kept;
-        stands = h;
-        is_one = k.can.way.magazine;
-        length = k.can.way.region;
-        taken = (L.ascending t.profile t.seen lawful).taken;
-        one_more_tiny = fit.one_more_tiny;
-        one_more_small = fit.one_more_small;
-      }
 
   module _ (r : AnyRegion) (cut : IsCut t.site t.profile w.magazine (known t at_pages).kept w.pages r) where
     abbrev f : ℕ
@@ -342,36 +270,81 @@ module _ (L : BookLaws) (w : Way) (n al : ℕ) (t : Account) (k : Seeks t w n al
 -- and that serves the request
 
 module _ (L : BookLaws) (w : Way) (n al : ℕ) where
-  pub served_fresh : (s t u v y : Account) (j d : ℕ) (r : AnyRegion) (x : SpanView) → HeldTwo s w n al t u → IsFresh u w n al r x v → LetsGo v y
-      → Served (entry_at j s.caller (Full w.magazine n al) ∷ entry_at d s.caller (Full w.depot n al) ∷ []) 2 s w n al (Ok x) y
-  served_fresh s t u v y j d r x h f go =
-      let es = entry_at f.i u.caller (Take w.magazine (run_in r).first w.pages) ∷ entry_at f.j u.caller (New w.magazine x.first n al) ∷ [] in
-      let all = L.joined s u v [] es 2 0 h.since f.since in
+  -- what is sought for is still sought for after the search
+  pub seeks_then : (u v : Account) (got : Result AnyRegion ℕ) → Seeks u w n al → Sought u w got v → Seeks v w n al
+  seeks_then u v got k y =
+      let adds = y.since.grows.adds in
       record {
-        mine = es;
+        can = can_same u v w n al k.can adds.same adds.zones;
+        all = y.can.all;
+        last_k = ap (λ (a : Value). a.last) y.same_k ∙ (k.last_k ∙ ap (λ z. deed_at z (Full w.magazine n al)) (sym adds.same.caller));
+        last_d = ap (λ (a : Value). a.last) y.same_d ∙ (k.last_d ∙ ap (λ z. deed_at z (Full (depot_of w.magazine) n al)) (sym adds.same.caller));
+      }
+
+  -- the flushes are those of the history that has gone on
+  flushed_then : (u v y : Account) (got : Result AnyRegion ℕ) (more : List Entry) → (q : Sought u w got v) → AreLawful y.profile opening y.seen → y.profile ≡ v.profile → y.seen ≡ v.seen ++ more → AreFlushed y w q.flushes
+  flushed_then u v y got more q lawful same seen = record { are = subst (λ p. AreFlushes p y.seen w.zone w.pages w.pages q.flushes) (sym same) (q.are y.seen more (subst (λ p. AreLawful p opening y.seen) same lawful) seen); each = q.each }
+
+  pub served_fresh : (s t u v x y : Account) (j d : ℕ) (r : AnyRegion) (b : SpanView) → HeldTwo s w n al t u → Sought u w (Ok r) v → IsFresh v w n al r b x → LetsGo x y → AreLawful y.profile opening y.seen
+      → Served (entry_at j s.caller (Full w.magazine n al) ∷ entry_at d s.caller (Full w.depot n al) ∷ []) 2 s w n al (Ok b) y
+  served_fresh s t u v x y j d r b h q f go lawful =
+      let c : v.caller ≡ s.caller = q.since.grows.adds.same.caller ∙ h.since.grows.adds.same.caller in
+      let more = f.since.grows.adds.more in
+      let sought = L.joined s u v [] (q.flushes ++ []) 2 0 h.since q.since in
+      let all = L.joined s v x (q.flushes ++ []) (entry_at f.i v.caller (Take w.magazine (run_in r).first w.pages) ∷ entry_at f.j v.caller (New w.magazine b.first n al) ∷ []) 2 0 sought f.since in
+      let mine : Grows s (q.flushes ++ entry_at f.i s.caller (Take w.magazine (run_in r).first w.pages) ∷ entry_at f.j s.caller (New w.magazine b.first n al) ∷ []) 2 x =
+      subst (λ a. Grows s (q.flushes ++ entry_at f.i a (Take w.magazine (run_in r).first w.pages) ∷ entry_at f.j a (New w.magazine b.first n al) ∷ []) 2 x) c
+      (subst (λ l. Grows s (l ++ entry_at f.i v.caller (Take w.magazine (run_in r).first w.pages) ∷ entry_at f.j v.caller (New w.magazine b.first n al) ∷ []) 2 x) (append-nil q.flushes) all.grows) in
+      record {
+        mine = q.flushes ++ entry_at f.i s.caller (Take w.magazine (run_in r).first w.pages) ∷ entry_at f.j s.caller (New w.magazine b.first n al) ∷ [];
         holds = 2;
-        grows = rest_grows L s es 2 v [] y all.grows go.after;
+        grows = rest_grows L s (q.flushes ++ entry_at f.i s.caller (Take w.magazine (run_in r).first w.pages) ∷ entry_at f.j s.caller (New w.magazine b.first n al) ∷ []) 2 x [] y mine go.after;
         nothing_held = ap (λ (a : Account). a.held) go.after;
-        served = by_fresh_region x (run_in r).first refl refl refl;
+        served = by_fresh_region b (run_in r).first j d f.i f.j q.flushes refl
+            (flushed_then u v y (Ok r) more q lawful (ap (λ (a : Account). a.profile) go.after ∙ f.since.grows.adds.same.profile) (ap (λ (a : Account). a.seen) go.after ∙ f.since.grows.adds.seen)) refl refl;
         is = (f.space ∙ sym (ap (λ (a : Account). a.site) go.after ∙ f.since.grows.adds.same.site), f.size);
       }
 
-  pub served_null : (s t u v y : Account) (j d i : ℕ) → HeldTwo s w n al t u → Dried u w i v → LetsGo v y
+  pub served_null : (s t u v y : Account) (j d i : ℕ) → HeldTwo s w n al t u → Sought u w (Err i) v → LetsGo v y → AreLawful y.profile opening y.seen
       → Served (entry_at j s.caller (Full w.magazine n al) ∷ entry_at d s.caller (Full w.depot n al) ∷ []) 2 s w n al (Err (Ranged j d i)) y
-  served_null s t u v y j d i h k go =
-      let e = Dry w.zone w.pages w.pages in
-      let all = L.joined s u v [] (entry_at i u.caller e ∷ []) 2 0 h.since k.since in
-      let mine : Grows s (entry_at i s.caller e ∷ []) 2 v = subst (λ c. Grows s (entry_at i c e ∷ []) 2 v) h.since.grows.adds.same.caller all.grows in
+  served_null s t u v y j d i h q go lawful =
+      let c = h.since.grows.adds.same.caller in
+      let all = L.joined s u v [] (q.flushes ++ dry_at i u.caller w ∷ []) 2 0 h.since q.since in
+      let mine : Grows s (q.flushes ++ dry_at i s.caller w ∷ []) 2 v = subst (λ a. Grows s (q.flushes ++ dry_at i a w ∷ []) 2 v) c all.grows in
       record {
-        mine = entry_at i s.caller e ∷ [];
+        mine = q.flushes ++ dry_at i s.caller w ∷ [];
         holds = 2;
-        grows = rest_grows L s (entry_at i s.caller e ∷ []) 2 v [] y mine go.after;
+        grows = rest_grows L s (q.flushes ++ dry_at i s.caller w ∷ []) 2 v [] y mine go.after;
         nothing_held = ap (λ (a : Account). a.held) go.after;
-        served = null_in_range j d i refl refl refl;
+        served = null_in_range j d i q.flushes refl
+            (flushed_then u v y (Err i) [] q lawful (ap (λ (a : Account). a.profile) go.after) (ap (λ (a : Account). a.seen) go.after ∙ sym (append-nil v.seen))) refl refl;
         is = subst (λ (a : Account). IsDried a w i) (sym go.after) (record {
-          before = k.last.before;
-          seen = k.last.seen;
-          calm_p = k.last.calm_p;
-          calm_l = k.last.calm_l;
+          before = q.is.before;
+          seen = q.is.seen;
+          calm_p = q.is.calm_p;
+          calm_l = q.is.calm_l;
         });
       }
+
+  -- the keepers stand for their places once large and the pages are held too
+  pub record KeptTwo (u : Account) (large pages magazine depot : Keeping) : Type 0 where
+    pub of_l : Keeps u (Large w.zone) large
+    pub of_p : Keeps u Pages pages
+    pub of_k : Keeps u w.magazine magazine
+    pub of_d : Keeps u (depot_of w.magazine) depot
+
+  pub kept_two : (s t u : Account) (f : AreFull s w n al) (hl : Holds s w.l t) → Holds t w.p u → HeldTwo s w n al t u → (large pages magazine depot : Keeping)
+      → StandsFor t w.l large → StandsFor u w.p pages → Keeps s w.magazine magazine → Keeps s (depot_of w.magazine) depot → KeptTwo u large pages magazine depot
+  kept_two s t u f hl hp h large pages magazine depot of_l of_p of_k of_d =
+      let way = h.seeks.can.way in
+      let way_t = way_after_l L w n al s t f hl in
+      let tl = keeps_at L t (Large w.zone) w.l way_t.l refl (zone_below L t.profile w way_t) large of_l in
+      record {
+        of_l = stands_then t u (Large w.zone) _ _ large (L.hold t u w.p hp).grows.adds.same (ap (λ (q : Value). q.kept) h.same_l) tl;
+        of_p = keeps_at L u Pages w.p way.pages_is refl refl pages of_p;
+        of_k = stands_then s u w.magazine _ _ magazine h.since.grows.adds.same (ap (λ (q : Value). q.kept) h.same_k) of_k;
+        of_d = stands_then s u (depot_of w.magazine) _ _ depot h.since.grows.adds.same (ap (λ (q : Value). q.kept) h.same_d) of_d;
+      }
+
+  pub can_seek : (u : Account) → Seeks u w n al → CanSeek u w
+  can_seek u k = record { way = k.can.way; zone_open = k.can.zone_open; all = k.all }

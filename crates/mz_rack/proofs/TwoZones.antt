@@ -1,7 +1,7 @@
 -- Zone 1 of the tests' two zones opens while its keepers are held.
 use Rattle.std.proofs.Common.{◌≡◌, ℕ, ◌+◌, ◌<◌, ◌≤◌, ◌==◌, Bool, true, false, List, [], ◌∷◌, ◌++◌, length, refl, ap, sym, subst, ◌∙◌, arith, zero, suc, None}
-use Rattle.std.specs.Prelude.{◌&&◌, ◌||◌, not, nat_lt, cond, if◌then◌else◌}
-use Rattle.std.specs.List.{All, list_all, filter, range_with_len}
+use Rattle.std.specs.Prelude.{◌||◌, nat_lt, if◌then◌else◌}
+use Rattle.std.specs.List.{All, list_all, range_with_len}
 use Rattle.std.proofs.lemmas.Bool.{and_parts, and_from, false≢true}
 use Rattle.std.proofs.lemmas.List.{append-nil}
 use Rattle.std.proofs.lemmas.List.Elements.{All-from_recursion}
@@ -19,7 +19,7 @@ use Rattle.mz_events.specs.Holding.{read_spots}
 use Rattle.mz_events.specs.Fitting.{MayOpen}
 use Rattle.mz_events.specs.Standing.{Keeping, Stands}
 use Rattle.mz_book.specs.Keepers.{keeper_count, place_at, keeper_spot, is_among, is_held}
-use Rattle.mz_book.specs.Account.{Account, state_of, known, holds_spot, entry_at, HoldsNothing, StandsFor}
+use Rattle.mz_book.specs.Account.{Account, state_of, known, holds_spot, entry_at, StandsFor}
 use Rattle.mz_book.specs.Calls.{CanHold, Holds, CanNote, Notes, CanRelease, Releases, without}
 use Rattle.mz_book.specs.Plain.{opening_account, Reserves}
 use Rattle.mz_rack.specs.BookLaws.{BookLaws}

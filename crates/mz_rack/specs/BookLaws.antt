@@ -1,11 +1,12 @@
 -- The laws of books and histories on which a request rests, together.
-use Rattle.std.specs.Prelude.{◌≡◌, ℕ, ◌+◌, ◌<◌, ◌≤◌, Bool, true, false, ◌||◌, List, [], ◌∷◌, ◌++◌, Option, Some, None, slice_get, IsTrue, ◌↔◌}
+use Rattle.std.specs.Prelude.{◌≡◌, ℕ, ◌+◌, ◌<◌, ◌≤◌, Bool, true, false, ◌||◌, List, [], ◌∷◌, ◌++◌, length, Option, Some, None, slice_get, IsTrue, ◌↔◌}
 use Rattle.mz_base.specs.declared.profile.Profile.{Profile}
 use Rattle.mz_base.specs.Space.{Block, Run}
 use Rattle.mz_base.specs.IdleRuns.{IsIdle}
 use Rattle.mz_base.specs.Room.{has_room_within}
 use Rattle.mz_base.specs.Lists.{has_run, has_block}
 use Rattle.mz_events.specs.declared.place.Place.{Place}
+use Rattle.mz_events.specs.declared.place.Place.TheVariants.{Large}
 use Rattle.mz_events.specs.declared.event.Event.{Event}
 use Rattle.mz_events.specs.declared.event.Event.TheVariants.{Full}
 use Rattle.mz_events.specs.declared.entry.Entry.{Entry}
@@ -63,3 +64,4 @@ pub record BookLaws : Type 0 where
   pub once : (p : Profile) (s : State) (es : List Entry) → IsOnce s → IsOnce (after_all p s es)
   pub by_spot : (s : State) → IsOnce s → IsBySpot s
   pub somewhere : (s : Account) (b : Block) → IsOrderly s → IsTrue (has_block (hand s) b) → (j : Spot) × IsTrue (has_block (known s j).kept.live b)
+  pub few_cached : (p : Profile) (es : List Entry) (z : ℕ) → AreLawful p opening es → (value_at (after_all p opening es) (spot_of (Large z))).duty ≡ None → length (kept_at (after_all p opening es) (spot_of (Large z))).cached ≤ 16

@@ -1,24 +1,19 @@
 -- What keepers keep, as numbers and as lists. This project's own.
-use Rattle.std.specs.Prelude.{◌≡◌, ℕ, List, Bool, Option, ◌⊎◌, refl}
+use Rattle.std.specs.Prelude.{◌≡◌, ℕ, List, Bool, ◌⊎◌, refl}
 use Rattle.std.proofs.Common.{inl, inr}
-use Rattle.std.specs.Coded.{Coded, code_by, coded×, coded⊎, coded_ℕ, coded_bool, coded_list, coded_option}
+use Rattle.std.specs.Coded.{Coded, code_by, coded×, coded⊎, coded_ℕ, coded_bool, coded_list}
 use base.Stored.{coded_unit}
 use Rattle.mz_base.specs.Site.{Site, site_code}
 use Rattle.mz_events.specs.State.{Kept, nothing_kept}
-use Rattle.mz_events.specs.Codes.{kept_code}
 use Rattle.mz_events.specs.Standing.{RegionsKept, LargeKept, PagesKept, Keeping, of_regions, of_large, of_pages, of_nothing}
 use Rattle.mz_magazine.specs.Keeping.{keeping_code}
+use Rattle.mz_large.specs.Large.{large_code}
 
 -- free pages with blanks are stored as the tuple of their fields
 abbrev pub stock_code : Coded PagesKept
 stock_code =
     code_by (Site × (List Bool × (ℕ × ℕ))) (coded× site_code (coded× (coded_list coded_bool) (coded× coded_ℕ coded_ℕ)))
     (λ p. (p.space, (p.free, (p.tiny_blanks, p.small_blanks)))) (λ t. record { space = t.0; free = t.1.0; tiny_blanks = t.1.1.0; small_blanks = t.1.1.1 }) (λ _. refl)
-
-abbrev large_code : Coded LargeKept
-large_code =
-    code_by (ℕ × (Option Site × Kept)) (coded× coded_ℕ (coded× (coded_option site_code) kept_code))
-    (λ l. (l.room, (l.space, l.kept))) (λ t. record { room = t.0; space = t.1.0; kept = t.1.1 }) (λ _. refl)
 
 abbrev Cases : Type 0
 Cases = RegionsKept ⊎ (LargeKept ⊎ (PagesKept ⊎ Unit {0}))

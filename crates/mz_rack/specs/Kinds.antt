@@ -1,5 +1,5 @@
 -- What a keeper keeps, by its kind.
-use Rattle.mz_events.specs.Standing.{Keeping, of_regions, of_pages, of_nothing}
+use Rattle.mz_events.specs.Standing.{Keeping, of_regions, of_pages, of_large}
 use Rattle.mz_rack.specs.declared.keeper.Kind.{Kind}
 use Rattle.mz_rack.specs.declared.keeper.Kind.TheVariants.{Pages, Tiny, Small, Large}
 
@@ -7,4 +7,4 @@ abbrev pub keeping_of : Kind → Keeping
 keeping_of (Pages v) = of_pages v
 keeping_of (Tiny v) = of_regions v
 keeping_of (Small v) = of_regions v
-keeping_of Large = of_nothing
+keeping_of (Large v) = of_large v

@@ -12,4 +12,6 @@ pub mod Stages
 pub mod Ending
 pub mod FreeStages
 pub mod BookLaws
+pub mod Flushing
+pub mod Seeking
 pub mod TwoZones

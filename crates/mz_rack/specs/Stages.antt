@@ -1,13 +1,14 @@
 -- Where a request stands between two calls of the book.
-use Rattle.std.specs.Prelude.{◌≡◌, ℕ, ◌+◌, ◌≤◌, true, false, List, [], ◌∷◌, ◌++◌, length, Some, None, Result, Ok, Err, IsTrue}
+use Rattle.std.specs.Prelude.{◌≡◌, ◌⊎◌, ℕ, ◌+◌, ◌≤◌, true, false, List, [], ◌∷◌, ◌++◌, length, Some, None, Result, Ok, Err, IsTrue}
 use Rattle.std.specs.Int.{IsPowerOfTwo}
+use Rattle.std.specs.List.{All}
 use Rattle.mz_base.specs.Space.{block_at}
 use Rattle.mz_base.specs.Room.{any_has_room}
 use Rattle.mz_ground.specs.Views.{SpanView}
 use Rattle.mz_events.specs.declared.place.Place.{Place}
 use Rattle.mz_events.specs.declared.place.Place.TheVariants.{Pages, Large}
 use Rattle.mz_events.specs.declared.event.Event.{Event}
-use Rattle.mz_events.specs.declared.event.Event.TheVariants.{Take, Move, New, Full, Dry}
+use Rattle.mz_events.specs.declared.event.Event.TheVariants.{Take, Back, Move, New, Full, Dry}
 use Rattle.mz_events.specs.declared.entry.Entry.{Entry}
 use Rattle.mz_events.specs.Places.{depot_of, is_size_of, Spot, same_spot, spot_of}
 use Rattle.mz_events.specs.State.{Kept, is_open}
@@ -15,7 +16,7 @@ use Rattle.mz_events.specs.Room.{wide}
 use Rattle.mz_events.specs.Changes.{with_block, pages_without}
 use Rattle.mz_events.specs.Leaving.{left_by}
 use Rattle.mz_events.specs.Standing.{Keeping, Stands}
-use Rattle.mz_record.specs.Served.{events}
+use Rattle.mz_record.specs.Served.{events, AreFlushes}
 use Rattle.mz_book.specs.Account.{Account, state_of, known, holds_spot, entry_at}
 use Rattle.mz_book.specs.Growth.{Grows, GrowsHolding}
 use Rattle.mz_rack.specs.declared.lot.Null.{Null}
@@ -151,20 +152,31 @@ pub record IsDried (t : Account) (w : Way) (i : ℕ) : Type 0 where
   pub calm_p : (known t at_pages).duty ≡ None
   pub calm_l : (known t (at_large w)).duty ≡ None
 
--- the entries of caller c serve the request with this span, or with none, and so many keepers are taken
-pub data IsServed (c : ℕ) (w : Way) (n al : ℕ) (es : List Entry) (holds : ℕ) (got : Result SpanView Null) : Type 0 where
+-- what a search for pages notes on its way: the pages are dry, or a run of large goes back to them
+abbrev pub IsFlush : Way → Event → Type 0
+IsFlush w e = (e ≡ Dry w.zone w.pages w.pages) ⊎ ((f : ℕ) × (n : ℕ) × (e ≡ Back (Large w.zone) f n))
+
+-- as often as the pages were dry, the oldest cached run went back to them
+pub record AreFlushed (t : Account) (w : Way) (flushes : List Entry) : Type 0 where
+  pub are : AreFlushes t.profile t.seen w.zone w.pages w.pages flushes
+  pub each : All (λ e. IsFlush w e.event) flushes
+
+-- the entries of caller c serve the request with this span, or with none, as t has seen, and so many keepers are taken
+pub data IsServed (c : ℕ) (t : Account) (w : Way) (n al : ℕ) (es : List Entry) (holds : ℕ) (got : Result SpanView Null) : Type 0 where
   by_magazine :
       (x : SpanView) → events es ≡ New w.magazine x.first n al ∷ []
-      → holds ≡ 1 → got ≡ Ok x → IsServed c w n al es holds got
+      → holds ≡ 1 → got ≡ Ok x → IsServed c t w n al es holds got
   by_depot :
       (x : SpanView) (f : ℕ) → events es ≡ Full w.magazine n al ∷ Move f w.depot w.magazine ∷ New w.magazine x.first n al ∷ []
-      → holds ≡ 2 → got ≡ Ok x → IsServed c w n al es holds got
+      → holds ≡ 2 → got ≡ Ok x → IsServed c t w n al es holds got
   by_fresh_region :
-      (x : SpanView) (f : ℕ) → events es ≡ Full w.magazine n al ∷ Full w.depot n al ∷ Take w.magazine f w.pages ∷ New w.magazine x.first n al ∷ []
-      → holds ≡ 4 → got ≡ Ok x → IsServed c w n al es holds got
+      (x : SpanView) (f m d i j : ℕ) (flushes : List Entry)
+      → es ≡ entry_at m c (Full w.magazine n al) ∷ entry_at d c (Full w.depot n al) ∷ (flushes ++ entry_at i c (Take w.magazine f w.pages) ∷ entry_at j c (New w.magazine x.first n al) ∷ [])
+      → AreFlushed t w flushes → holds ≡ 4 → got ≡ Ok x → IsServed c t w n al es holds got
   null_in_range :
-      (m d p : ℕ) → es ≡ entry_at m c (Full w.magazine n al) ∷ entry_at d c (Full w.depot n al) ∷ entry_at p c (Dry w.zone w.pages w.pages) ∷ []
-      → holds ≡ 4 → got ≡ Err (Ranged m d p) → IsServed c w n al es holds got
+      (m d p : ℕ) (flushes : List Entry)
+      → es ≡ entry_at m c (Full w.magazine n al) ∷ entry_at d c (Full w.depot n al) ∷ (flushes ++ entry_at p c (Dry w.zone w.pages w.pages) ∷ [])
+      → AreFlushed t w flushes → holds ≡ 4 → got ≡ Err (Ranged m d p) → IsServed c t w n al es holds got
 
 abbrev pub IsGot : Account → Way → ℕ → Result SpanView Null → Type 0
 IsGot t w n (Ok x) = (x.space ≡ t.site) × (length x.bytes ≡ n)
@@ -178,5 +190,5 @@ pub record Served (front : List Entry) (k : ℕ) (s : Account) (w : Way) (n al :
   pub holds : ℕ
   pub grows : Grows s mine holds t
   pub nothing_held : t.held ≡ []
-  pub served : IsServed s.caller w n al (front ++ mine) (k + holds) got
+  pub served : IsServed s.caller t w n al (front ++ mine) (k + holds) got
   pub is : IsGot t w n got

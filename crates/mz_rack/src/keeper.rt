@@ -22,6 +22,8 @@ ghost use Rattle.mz_rack.specs.Keepings.{lists_of};
 ghost use Rattle.mz_rack.specs.Regions.{quantum_in, run_in, view_in};
 ghost use Rattle.mz_rack.specs.Asking.{IsTidy, MayAsk, MayYield, MayAdopt, MayTake};
 ghost use Rattle.mz_rack.specs.Answering.{Placed, FoundRoom, Yielded, Cut};
+ghost use Rattle.mz_rack.specs.Flushing.{Flushed, IsLackedRun, MayPutRunBack};
+ghost use Rattle.mz_large.specs.Large.{run_of_span};
 ghost use Rattle.mz_rack.specs.Ending.{MayFree, IsLacked, MayPutBack};
 
 use crate::region::AnyRegion;
@@ -31,11 +33,12 @@ use mz_base::{PAGE, Profile};
 use mz_bits::laws::a_run_is_read;
 use mz_events::Keep;
 use mz_ground::Span;
+use mz_large::Large;
 use std::alloc::{AllocError, Global};
 use std::marker::Model;
 
-/// What stands for a place: the free pages with blank regions, a magazine or a depot, or large of a zone, which has
-/// no runs yet. Contracts see what it keeps. `all` alone makes keepers.
+/// What stands for a place: the free pages with blank regions, a magazine or a depot, or large of a zone. Contracts see
+/// what it keeps. `all` alone makes keepers.
 #[derive(Drop)]
 pub struct Keeper {
     kind: Kind,
@@ -47,7 +50,7 @@ enum Kind {
     Pages(Stock),
     Tiny(Shelf<16, 65_536>),
     Small(Shelf<512, 16_384>),
-    Large,
+    Large(Large),
 }
 
 impl Model for Keeper {
@@ -92,7 +95,7 @@ impl Keeper {
         Ok(keepers)
     }
 
-    // The i-th keeper of a zone, with room for each region that fits in so many pages.
+    // The i-th keeper of a zone, with room for each region, or large run, that fits in so many pages.
     fn of_zone(alloc: Global, p: &Profile, i: usize, pages: u64) -> Result<Keeper, AllocError>
         requires limits { IsWithinLimits p.now }
         requires pages { pages ≡ nano_start p.now }
@@ -104,7 +107,7 @@ impl Keeper {
         } else if i <= 2 * m + 1 {
             Kind::Small(Shelf::make(alloc, pages / 512, i == 2 * m + 1)?)
         } else {
-            Kind::Large
+            Kind::Large(Large::make(alloc, pages / 3)?)
         };
         Ok(Keeper { kind })
     }
@@ -117,7 +120,8 @@ impl Keeper {
         match &self.kind {
             Kind::Tiny(shelf) => shelf.run_of(page),
             Kind::Small(shelf) => shelf.run_of(page),
-            Kind::Pages(_) | Kind::Large => None,
+            Kind::Large(large) => large.run_of(page),
+            Kind::Pages(_) => None,
         }
     }
 
@@ -128,7 +132,8 @@ impl Keeper {
         match &self.kind {
             Kind::Tiny(shelf) => shelf.magazine.size_at(a),
             Kind::Small(shelf) => shelf.magazine.size_at(a),
-            Kind::Pages(_) | Kind::Large => 0,
+            Kind::Large(large) => large.size_at(a),
+            Kind::Pages(_) => 0,
         }
     }
 
@@ -139,7 +144,8 @@ impl Keeper {
         match &self.kind {
             Kind::Tiny(shelf) => shelf.magazine.count(),
             Kind::Small(shelf) => shelf.magazine.count(),
-            Kind::Pages(_) | Kind::Large => 0,
+            Kind::Large(large) => large.count(),
+            Kind::Pages(_) => 0,
         }
     }
 
@@ -151,7 +157,7 @@ impl Keeper {
         match &mut self.kind {
             Kind::Tiny(shelf) => shelf.magazine.alloc(n / 16, al),
             Kind::Small(shelf) => shelf.magazine.alloc(n / 512, al),
-            Kind::Pages(_) | Kind::Large => None,
+            Kind::Pages(_) | Kind::Large(_) => None,
         }
     }
 
@@ -163,7 +169,7 @@ impl Keeper {
         let first = match &self.kind {
             Kind::Tiny(shelf) => shelf.magazine.fits(n / 16, al),
             Kind::Small(shelf) => shelf.magazine.fits(n / 512, al),
-            Kind::Pages(_) | Kind::Large => None,
+            Kind::Pages(_) | Kind::Large(_) => None,
         };
         match first {
             Some(a) => Some(a / PAGE),
@@ -185,7 +191,7 @@ impl Keeper {
                 Some(region) => AnyRegion::Small(region),
                 None => unreachable!(),
             },
-            Kind::Pages(_) | Kind::Large => unreachable!(),
+            Kind::Pages(_) | Kind::Large(_) => unreachable!(),
         }
     }
 
@@ -211,7 +217,7 @@ impl Keeper {
                 let _first = region.first();
                 shelf.magazine.adopt(region);
             }
-            Kind::Pages(_) | Kind::Large => unreachable!(),
+            Kind::Pages(_) | Kind::Large(_) => unreachable!(),
         }
     }
 
@@ -238,11 +244,26 @@ impl Keeper {
         }
     }
 
-    // Says that large of a zone has no cached run.
-    pub(crate) fn caches_nothing(&self)
-        ensures { (x : Site) (p : profile) (z : ℕ) (k : Kept) → Stands self.now x p (place_is.Large z) k → k.cached ≡ [] }
+    // Hands out the run that large of a zone cached first, or answers None where it caches none.
+    pub(crate) fn flush_one(&mut self) -> Option<Span>
+        ensures { (x : Site) (p : profile) (z : ℕ) (k : Kept) → Stands self.old x p (place_is.Large z) k → Flushed x k (Stands self.new x p (place_is.Large z)) result }
     {
-        let _kind = &self.kind;
+        match &mut self.kind {
+            Kind::Large(large) => large.flush_one(),
+            Kind::Pages(_) | Kind::Tiny(_) | Kind::Small(_) => None,
+        }
+    }
+
+    // Takes a run of large back to the free pages.
+    pub(crate) fn put_run_back(&mut self, run: Span)
+        requires { MayPutRunBack self.old run }
+        ensures { (x : Site) (p : profile) (z : ℕ) (k : Kept) → Stands self.old x p place_is.Pages k → IsLackedRun p k run → Stands self.new x p place_is.Pages (pages_with (place_is.Large z) (run_of_span run) k) }
+    {
+        a_run_is_read();
+        let Kind::Pages(stock) = &mut self.kind else {
+            unreachable!()
+        };
+        stock.pages.back(run);
     }
 
     // Takes a live block of a magazine or a depot back.
@@ -253,7 +274,7 @@ impl Keeper {
         let freed = match &mut self.kind {
             Kind::Tiny(shelf) => shelf.magazine.free(span),
             Kind::Small(shelf) => shelf.magazine.free(span),
-            Kind::Pages(_) | Kind::Large => Err(span),
+            Kind::Pages(_) | Kind::Large(_) => Err(span),
         };
         if freed.is_err() {
             unreachable!()
@@ -282,7 +303,7 @@ impl Keeper {
         let empty = match &self.kind {
             Kind::Tiny(shelf) => shelf.magazine.empty(),
             Kind::Small(shelf) => shelf.magazine.empty(),
-            Kind::Pages(_) | Kind::Large => None,
+            Kind::Pages(_) | Kind::Large(_) => None,
         };
         match empty {
             Some(a) => Some(a / PAGE),

@@ -22,6 +22,7 @@ pub(crate) fn of_books()
     separation::runs_fit_the_space();
     separation::regions_fit_the_space();
     separation::depots_hold_no_unused_region();
+    separation::few_are_cached();
     entries::tickets_are_indices();
     states::spots_stand_once();
     states::lists_are_by_spot();

@@ -5,14 +5,16 @@
 //! - `Lot`: one block with its bytes. `Null` says that no place had room, and `NotLive` that a block is of another zone.
 //! - `way`: the places that serve a caller, and the numbers of their keepers.
 //! - `serve`: how a request goes from place to place.
+//! - `flush`: how it finds pages, for which cached runs of large go back where the pages are dry.
 //! - `home`: in which place a block lives.
 //! - `free`: how a block ends there, and what its end calls for.
 //! - `shelf`, `stock`, `region`: the parts of a keeper.
 //!
 //! ```text
-//! request  ->  0t1   full?  ->  0td   full?  ->  0l, p   dry?  ->  null
-//!              |                |                |
-//!              new              move, new        take, new
+//! request  ->  0t1   full?  ->  0td   full?  ->  0l, p   dry, and nothing cached?  ->  null
+//!              |                |                |  \
+//!              new              move, new        |   dry, back: the run that was cached first
+//!                                                take, new
 //! held         1                2                4 keepers
 //!
 //! free     ->  0t0 or 0td?  another zone  ->  no
@@ -31,6 +33,7 @@
 //! drop the block, or the one that says that it is of another zone.
 #![tactic(auto)]
 
+mod flush;
 mod free;
 mod home;
 mod keeper;

@@ -42,7 +42,9 @@ impl Rack {
 
     /// A block for a request of `n` bytes at the alignment `al`, a power of two from 16 to 16,384. It comes from the
     /// caller's magazine; or from the lowest region of the depot with room, which moves to the magazine; or from a
-    /// fresh region. `Null` comes only where the magazine and the depot have no room and the pages have no run for a region.
+    /// fresh region, for which the zone's cached large runs go back to the pages, the one cached first before the others, as
+    /// long as these have no run for it. `Null` comes only where the magazine and the depot have no room, the pages have no
+    /// run for a region, and nothing is cached.
     ///
     /// Until there are large blocks `n` is at most 32,768.
     pub fn alloc<B: Book<Keeper>, R: Wait>(

@@ -9,6 +9,7 @@ ghost use Rattle.mz_rack.specs.Ways.{IsWay};
 ghost use Rattle.mz_rack.specs.Answering.{IsCut};
 ghost use Rattle.mz_rack.specs.Stages.{Keeps, HasRoom, at_magazine, at_depot, at_pages, CanAsk, Ready, Tried, IsFull, HoldsBoth, IsMovedOver, AreFull, AllHeld, Seeks, IsFresh, LetsGo, Served};
 
+use crate::flush::seek;
 use crate::keeper::Keeper;
 use crate::laws::of_books;
 use crate::lot::Null;
@@ -176,21 +177,15 @@ fn from_pages<B: Book<Keeper>, R: Wait>(
         Served (entry_at full c (event.Full w.now.magazine n al) ∷ entry_at depot_full c (event.Full w.now.depot n al) ∷ []) 2 (B.account book.old) w.now n al result (B.account book.new) }
 {
     of_books();
-    let large = book.hold(rt, w.l);
+    let mut large = book.hold(rt, w.l);
     let mut pages = book.hold(rt, w.p);
-    large.caches_nothing();
-    match pages.take(w.pages) {
-        Some(region) => {
+    match seek(book, w, &mut large, &mut pages) {
+        Ok(region) => {
             let span = make_fresh(book, w, &mut magazine, region, n, al);
             let_go(book, w, magazine, depot, large, pages);
             Ok(span)
         }
-        None => {
-            let dry = book.note(Event::Dry {
-                zone: w.zone,
-                pages: w.pages,
-                al: w.pages,
-            });
+        Err(dry) => {
             let_go(book, w, magazine, depot, large, pages);
             Err(Null::Ranged {
                 magazine: full,

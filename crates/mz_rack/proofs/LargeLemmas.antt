@@ -1,0 +1,61 @@
+-- What the calls of large answer, for each place for which its keeper stands.
+use Rattle.std.proofs.Common.{◌≡◌, ◌⊎◌, ℕ, ◌≤◌, true, false, Bool, List, [], ◌∷◌, Option, None, Some, ap, sym, subst, ◌∙◌, inl, inr}
+use Rattle.std.specs.Prelude.{MatchOption, if◌then◌else◌}
+use Rattle.std.specs.List.{list_all}
+use Rattle.std.proofs.lemmas.Bool.{false≢true}
+use Rattle.mz_base.specs.declared.profile.Profile.{Profile}
+use Rattle.mz_base.specs.Site.{Site}
+use Rattle.mz_base.specs.Space.{Run, Block, blocks_apart, bytes_of}
+use Rattle.mz_base.specs.Lists.{has_run}
+use Rattle.mz_ground.specs.Views.{SpanView}
+use Rattle.mz_large.specs.Large.{run_of_span, space_while, HandsOut}
+use Rattle.mz_events.specs.declared.place.Place.{Place}
+use Rattle.mz_events.specs.declared.place.Place.TheVariants.{Large}
+use Rattle.mz_events.specs.State.{Kept}
+use Rattle.mz_events.specs.Changes.{without_run}
+use Rattle.mz_events.specs.Standing.{RegionsKept, LargeKept, PagesKept, Keeping, Stands, StandsForLarge, IsOf, stretches_below}
+use Rattle.mz_rack.specs.declared.keeper.Kind.{Kind}
+use Rattle.mz_rack.specs.declared.keeper.Kind.TheVariants as kind
+use Rattle.mz_rack.specs.Kinds.{keeping_of}
+use Rattle.mz_rack.specs.Flushing.{Flushed}
+
+pub of_large : (i : Kind) (v : LargeKept) (n : Keeping) → keeping_of i ≡ n → i ≡ kind.Large v → (x : Site) (p : Profile) (q : Place) (k : Kept) → Stands n x p q k → StandsForLarge v x p q k
+of_large i v n view is x p q k s = subst (λ j. Stands (keeping_of j) x p q k) is (subst (λ j. Stands j x p q k) (sym view) s)
+
+no_place : (b : Bool) → (if b then false else false) ≡ true → ⊥
+no_place true h = false≢true h
+no_place false h = false≢true h
+
+-- the keepers of the other kinds don't stand for large
+pub no_large : (i : Kind) (n : Keeping) → keeping_of i ≡ n → ((v : PagesKept) × (i ≡ kind.Pages v)) ⊎ (((v : RegionsKept) × (i ≡ kind.Tiny v)) ⊎ ((v : RegionsKept) × (i ≡ kind.Small v))) → (x : Site) (p : Profile) (z : ℕ) (k : Kept) → Stands n x p (Large z) k → ⊥
+no_large i n view (inl y) x p z k s = false≢true (subst (λ j. Stands (keeping_of j) x p (Large z) k) y.1 (subst (λ j. Stands j x p (Large z) k) (sym view) s)).kind
+no_large i n view (inr (inl y)) x p z k s = no_place y.0.depot (subst (λ j. Stands (keeping_of j) x p (Large z) k) y.1 (subst (λ j. Stands j x p (Large z) k) (sym view) s)).kind
+no_large i n view (inr (inr y)) x p z k s = no_place y.0.depot (subst (λ j. Stands (keeping_of j) x p (Large z) k) y.1 (subst (λ j. Stands j x p (Large z) k) (sym view) s)).kind
+
+while_of : (rs : List Run) (o : Option Site) (x : Site) → IsOf o x → IsOf (space_while rs o) x
+while_of [] o x of = tt
+while_of (r ∷ rs) o x of = of
+
+-- THE OLDEST comes out
+pub flushed : (v u : LargeKept) (got : Option SpanView) (x : Site) (p : Profile) (z : ℕ) (k : Kept) → StandsForLarge v x p (Large z) k
+    → MatchOption got ((u ≡ v) × (v.kept.cached ≡ [])) (λ s. (v.kept.cached ≡ run_of_span s ∷ u.kept.cached) × HandsOut v s u)
+    → Flushed x k (StandsForLarge u x p (Large z)) got
+flushed v u None x p z k st h = (ap (λ (j : Kept). j.cached) (sym st.keeps) ∙ h.1, subst (λ (y : LargeKept). StandsForLarge y x p (Large z) k) (sym h.0) st)
+flushed v u (Some s) x p z k st h =
+    let out = h.1 in
+    let kept : u.kept ≡ without_run (run_of_span s) k = ap (λ (y : LargeKept). y.kept) out.left ∙ ap (without_run (run_of_span s)) st.keeps in (
+      record {
+        space = subst (λ o. IsOf o x) out.cached.space st.space;
+        whole = out.cached.whole;
+        first = ap (λ (j : Kept). j.cached) (sym st.keeps) ∙ h.0 ∙ ap (λ (j : Kept). run_of_span s ∷ j.cached) kept;
+        there = ap (λ (j : Kept). has_run j.runs (run_of_span s)) (sym st.keeps) ∙ out.cached.run;
+        unused = ap (λ (j : Kept). list_all (λ b. blocks_apart b (bytes_of (run_of_span s))) j.live) (sym st.keeps)
+            ∙ (ap (λ (c : Block). list_all (λ b. blocks_apart b c) v.kept.live) out.cached.whole ∙ out.cached.apart);
+      },
+      record {
+        kind = st.kind;
+        space = subst (λ o. IsOf o x) (sym (ap (λ (y : LargeKept). y.space) out.left)) (while_of u.kept.cached v.space x st.space);
+        room = subst (λ n. stretches_below p 3 ≤ n) (sym (ap (λ (y : LargeKept). y.room) out.left)) st.room;
+        keeps = kept;
+      },
+    )

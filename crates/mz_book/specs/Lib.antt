@@ -5,6 +5,7 @@ pub mod Lights
 pub mod Account
 pub mod Calls
 pub mod Rule
+pub mod Handed
 pub mod Plain
 pub mod Parts
 pub mod Growth

@@ -88,9 +88,9 @@ module _ (L : HistoryLaws) (p : Profile) (fit : AllFit p)
       let all : more ++ later ≡ before ++ e ∷ later = append_assoc before (e ∷ []) later in
       let is : after_all p opening more ≡ after p st e.caller e.event = L.after_joined p opening before (e ∷ []) ∙ L.after_one p st e in
       let told : pairs_told r more ≡ pairs_after e.caller (pairs_told q before) e.event =
-          ap (λ bs. map (owned_pair r) bs) (through_snoc [] before e) ∙ told_then L p fit before parts.0 q one len e.caller e.event first.fits lives h.0 in
+      ap (λ bs. map (owned_pair r) bs) (through_snoc [] before e) ∙ told_then L p fit before parts.0 q one len e.caller e.event first.fits lives h.0 in
       let one' : AreInOneHand (after_all p opening more) (pairs_told r more) =
-          subst (λ ps. AreInOneHand (after_all p opening more) ps) (sym told) (subst (λ (u : State). AreInOneHand u (pairs_after e.caller (pairs_told q before) e.event)) (sym is) (one_then L p before e.caller parts.0 (pairs_told q before) one e.event first.fits h.0 lives)) in
+      subst (λ ps. AreInOneHand (after_all p opening more) ps) (sym told) (subst (λ (u : State). AreInOneHand u (pairs_after e.caller (pairs_told q before) e.event)) (sym is) (one_then L p before e.caller parts.0 (pairs_told q before) one e.event first.fits h.0 lives)) in
       let rest = goes_on later more r (subst (AreLawful p opening) (sym all) ok) (length_after e.caller q e.event ∙ len) one' (subst (λ ps. AreHanded ps later) (sym told) h.1) in
       record {
         within = All-cons (λ (x : Entry). BeginsWithin q x.event) e later (note_inside L p fit before parts.0 q one len e.caller e.event first.fits lives) (All-weaker (λ (x : Entry). BeginsWithin r x.event) (λ (x : Entry). BeginsWithin q x.event) (λ x b. begins_there q r x.event (length_after e.caller q e.event) b) later rest.within);

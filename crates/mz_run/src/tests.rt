@@ -8,6 +8,7 @@ use std::thread::Threads;
 mod bytes;
 mod calls;
 mod commands;
+mod generated;
 mod inputs;
 mod regions;
 mod unbuilt;

@@ -18,8 +18,8 @@ use Rattle.mz_transcript.specs.declared.fault.RunFault.TheVariants as fault
 use Rattle.mz_transcript.specs.declared.line.RunLine.{RunLine}
 use Rattle.mz_transcript.specs.declared.line.Due.{Due}
 use Rattle.mz_transcript.specs.declared.line.Due.TheVariants as due
-use Rattle.mz_transcript.specs.declared.stage.Part.TheVariants.{Section}
-use Rattle.mz_transcript.specs.declared.stage.Known.TheVariants as known
+use Rattle.mz_transcript.specs.declared.part.Part.TheVariants.{Section}
+use Rattle.mz_transcript.specs.declared.tail.Known.TheVariants as known
 use Rattle.mz_transcript.specs.declared.stage.Stage.{Stage}
 use Rattle.mz_transcript.specs.declared.stage.Stage.TheVariants.{First, Rounds, Tail}
 use Rattle.mz_transcript.specs.RunLines.{line_in}

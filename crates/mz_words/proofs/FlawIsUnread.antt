@@ -45,7 +45,7 @@ when_told false o = refl
 abbrev given_name : List ℕ → GivenName
 given_name base = record { base = base }
 
-given_told : (t : List ℕ) → is_some (given_of t) ≡ is_given_name t
+pub given_told : (t : List ℕ) → is_some (given_of t) ≡ is_given_name t
 given_told [] = refl
 given_told (c ∷ cs) =
     when_told (eqb c 64) (base_of cs >>= λ base. Some (given_name base))
@@ -59,7 +59,7 @@ three : (a b c : Bool) → (a || (b || c)) ≡ (a || b || c)
 three true b c = refl
 three false b c = refl
 
-name_told : (t : List ℕ) → is_some (name_of t) ≡ is_name t
+pub name_told : (t : List ℕ) → is_some (name_of t) ≡ is_name t
 name_told t =
     either_told (base_of t) name.Base (longer_name_of t)
     ∙ ap (λ (b : Bool). b || is_some (longer_name_of t)) (if_told (is_base_name t) t)

@@ -1,7 +1,7 @@
 -- Lines in their places make the rounds that are read from them.
-use Rattle.std.proofs.Common.{◌≡◌, ℕ, ◌+◌, ◌<◌, Bool, true, false, List, [], ◌∷◌, ◌++◌, eqb, refl, ◌∙◌, append_assoc, both_ways}
+use Rattle.std.proofs.Common.{◌≡◌, ℕ, ◌+◌, ◌<◌, Bool, true, false, List, [], ◌∷◌, ◌++◌, eqb, refl, ◌∙◌, append_assoc}
 use Rattle.std.specs.List.{list_all}
-use Rattle.std.proofs.lemmas.Bool.{and_parts, or_parts, ltb-true}
+use Rattle.std.proofs.lemmas.Bool.{and_parts, both_ways, or_parts, ltb-true}
 use Rattle.std.proofs.lemmas.List.{append-nil}
 use Rattle.mz_lines.specs.declared.line.Line.{Line}
 use Rattle.mz_lines.specs.declared.line.Line.TheVariants.{Round as round, Start as start, Call as call}
@@ -41,7 +41,7 @@ one_stands callers round r ls fit place s = opened (record {
   is = round_begins callers;
   idle = λ h. refl;
 })
-one_stands callers (start y) r ls fit place (nothing begun rs e) = absurd (both_ways _ begun (or_parts _ _ place).0)
+one_stands callers (start y) r ls fit place (nothing begun rs e) = absurd (both_ways _ (or_parts _ _ place).0 begun)
 one_stands callers (start y) r ls fit place (opened o) = opened (record {
   begun = o.begun;
   front = o.front;
@@ -51,7 +51,7 @@ one_stands callers (start y) r ls fit place (opened o) = opened (record {
   is = round_starts callers o.back r.open y o.is (o.idle (or_parts _ _ place).1);
   idle = λ h. refl;
 })
-one_stands callers (call c k) r ls fit place (nothing begun rs e) = absurd (both_ways _ begun place)
+one_stands callers (call c k) r ls fit place (nothing begun rs e) = absurd (both_ways _ place begun)
 one_stands callers (call c k) r ls fit place (opened o) = opened (record {
   begun = o.begun;
   front = o.front;
@@ -59,7 +59,7 @@ one_stands callers (call c k) r ls fit place (opened o) = opened (record {
   parts = rw o.parts (append_assoc o.front o.back (call c k ∷ []));
   are = o.are;
   is = round_calls callers o.back r.open c k (ltb-true _ _ (and_parts _ _ fit).0) o.is;
-  idle = λ h. absurd (both_ways true refl h);
+  idle = λ h. absurd (both_ways true h refl);
 })
 
 pub all_stand : (callers : ℕ) (xs : List Line) (r : Reader) (ls : List Line) → list_all (line_fits callers) xs ≡ true → InPlace callers r xs → Stands callers r ls → Stands callers (all_added callers r xs) (ls ++ xs)

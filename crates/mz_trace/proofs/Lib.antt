@@ -12,6 +12,5 @@ pub mod PrintedLines
 pub mod NormalFormIsText
 pub mod TextsAreTraces
 -- What is printed.
-pub mod Appended
 pub mod PrintedSections
 pub mod RunHasTrace

@@ -110,8 +110,8 @@ rounds_go callers ls rs fit (more front back before w are is) le =
     let both = and_parts _ _ (sym (list_all-append (line_fits callers) front back) ∙ fit) in
     let l = length-append before (w ∷ []) in
     let earlier = rounds_go callers front before both.0 are (omega (arith, l, le)) in
-    let at = all_added callers (fresh callers) front in
-    let count : length before ≡ at.begun = rw earlier.1 at (all_counted callers front (fresh callers) earlier.0 (record { count = refl; few = omega arith })).count in
-    let last = round_goes callers at back w both.1 is (omega (arith, count, l, le)) in
+    let reached = all_added callers (fresh callers) front in
+    let count : length before ≡ reached.begun = rw earlier.1 at (all_counted callers front (fresh callers) earlier.0 (record { count = refl; few = omega arith })).count in
+    let last = round_goes callers reached back w both.1 is (omega (arith, count, l, le)) in
     (in_place-append callers (fresh callers) front back earlier.0 last.0,
      ap rounds_in (all_added-append callers (fresh callers) front back) ∙ last.1 ∙ ap (λ (x : List Round). x ++ w ∷ []) earlier.1)

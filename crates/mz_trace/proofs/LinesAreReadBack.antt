@@ -11,6 +11,7 @@ use Rattle.mz_lines.specs.declared.line.Line.TheVariants.{Round as round, Start 
 use Rattle.mz_lines.specs.declared.why.Why.{Why}
 use Rattle.mz_lines.specs.declared.why.Why.TheVariants.{OutOfPlace, GivenBefore}
 use Rattle.mz_lines.specs.Laws.{LineLaws}
+use Rattle.mz_lines.specs.LineReading.{line_in}
 use Rattle.mz_lines.specs.Lines.{line_words, line_fits}
 use Rattle.mz_trace.specs.declared.reader.Reader.{Reader}
 use Rattle.mz_trace.specs.Texts.{lines_text}
@@ -95,6 +96,10 @@ read_is_text laws callers (l ∷ ls) r n s e =
     }
 
 -- and lines that keep all rules
+line_is_read : (callers : ℕ) (r : Reader) (n : ℕ) (l : Cut) (ls : List Cut) (x : Line) → is_plain l ≡ true → line_in callers (words_of l.text) ≡ Some x → place_why r x ≡ None
+    → reading callers r n (l ∷ ls) ≡ reading callers (added callers x r) (n + 1) ls
+line_is_read callers r n l ls x plain read place = rw (plain, read, place) refl
+
 pub text_is_read : LineLaws → (callers : ℕ) (xs : List Line) (r : Reader) (n : ℕ) → callers < 2 ^ 64 → list_all (line_fits callers) xs ≡ true → InPlace callers r xs → GivesOnce r xs
     → reading callers r n (map cut_line xs) ≡ Ok (all_added callers r xs)
 text_is_read laws callers [] r n few fit place once = refl
@@ -102,8 +107,9 @@ text_is_read laws callers (x ∷ xs) r n few fit place once =
     let both = and_parts (line_fits callers x) (list_all (line_fits callers) xs) fit in
     let seen = laws.lines.visible callers x few both.0 in
     let short : length (join_with_byte 32 (line_words x)) ≤ 255 = let f = laws.lines.few x in let l = length-join 21 (line_words x) (laws.lines.short callers x few both.0) in omega (arith, f, l) in
-    rw (plain_words laws (line_words x) seen short, words_again laws (line_words x) (line_some x) seen, laws.lines.again callers x few both.0, place.0, once_new x xs r once)
-    (text_is_read laws callers xs (added callers x r) (n + 1) few both.1 place.1 (once_behind callers x xs r once))
+    line_is_read callers r n (cut_line x) (map cut_line xs) x (plain_words laws (line_words x) seen short)
+    (ap (line_in callers) (words_again laws (line_words x) (line_some x) seen) ∙ laws.lines.again callers x few both.0) (rw (place.0, once_new x xs r once) refl)
+    ∙ text_is_read laws callers xs (added callers x r) (n + 1) few both.1 place.1 (once_behind callers x xs r once)
 
 -- the text of lines is cut into them
 pub cut_lines : LineLaws → (callers : ℕ) (xs : List Line) → callers < 2 ^ 64 → list_all (line_fits callers) xs ≡ true → cuts (lines_text xs) ≡ map cut_line xs

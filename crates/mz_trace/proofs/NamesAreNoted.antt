@@ -1,5 +1,5 @@
 -- A name that comes in, and that no name comes in twice.
-use Rattle.std.proofs.Common.{◌≡◌, ℕ, ◌+◌, ◌≤◌, Bool, true, false, List, [], ◌∷◌, cond, arith, refl, sym, ap, ◌∙◌, both_ways}
+use Rattle.std.proofs.Common.{◌≡◌, ℕ, ◌+◌, ◌≤◌, Bool, true, false, List, [], ◌∷◌, cond, arith, refl, sym, ap, ◌∙◌}
 use Rattle.std.specs.Prelude.{◌||◌, count_by}
 use Rattle.std.specs.List.{list_any}
 use Rattle.std.specs.Ordering.{nat_cmp, is_eq, match_ordering}
@@ -8,6 +8,7 @@ use Rattle.std.specs.declared.cmp.Ordering.TheVariants.{Less, Equal, Greater}
 use Rattle.std.specs.Cmp.Lexicographic.{slice_cmp}
 use Rattle.std.specs.BTreeMap.{is_at}
 use Rattle.std.specs.Str.{bytes_eq}
+use Rattle.std.proofs.lemmas.Bool.{both_ways}
 use Rattle.std.proofs.lemmas.Bool.Decides.{same_from_decides, Decides-like}
 use Rattle.std.proofs.lemmas.Map.Text.{is_eq-slice_cmp}
 use Rattle.std.proofs.lemmas.Slice.Eq.{bytes_eq-Decides}
@@ -91,7 +92,9 @@ once_behind callers x xs r once base =
 pub once_new : (x : Line) (xs : List Line) (r : Reader) → GivesOnce r (x ∷ xs) → is_given r x ≡ false
 once_new (call c (Give name to given)) xs r once =
     let hit : bytes_eq given.base given.base ≡ true = (bytes_eq-Decides given.base given.base).1 refl in
-    room (has_name r.given given.base) (count_by (gives given.base) xs) (rw hit at (rw (count_more (gives given.base) (call c (Give name to given)) xs) at (once given.base)))
+    let le : cond (has_name r.given given.base) 1 0 + cond (bytes_eq given.base given.base) (count_by (gives given.base) xs + 1) (count_by (gives given.base) xs) ≤ 1 =
+    rw (count_more (gives given.base) (call c (Give name to given)) xs) at (once given.base) in
+    room (has_name r.given given.base) (count_by (gives given.base) xs) (rw hit at le)
   where
     room : (a : Bool) (n : ℕ) → cond a 1 0 + (n + 1) ≤ 1 → a ≡ false
     room true n le = absurd (omega arith)

@@ -65,11 +65,14 @@ second_is laws m p e = by_profile (is_plain m) (profile_in (words_of m.text)) re
   by_profile true None plain space = let bad : Err NotSpace ≡ Ok p = rw (plain, space) at e in absurd cc
   by_profile false o plain space = let bad : Err NotPlain ≡ Ok p = rw plain at e in absurd cc
 
+second_of : (m : Cut) (p : Profile) → is_plain m ≡ true → profile_in (words_of m.text) ≡ Some p → second_in m ≡ Ok p
+second_of m p plain space = rw (plain, space) refl
+
 second_read : LineLaws → (p : Profile) → IsWithinLimits p → second_in (line_of (space_words p)) ≡ Ok p
 second_read laws p h =
     let seen = laws.profiles.visible p h in
     let short : length (join_with_byte 32 (space_words p)) ≤ 255 = let l = length-join 20 (space_words p) (laws.short_profiles p h) in omega (arith, l) in
-    rw (plain_words laws (space_words p) seen short, words_again laws (space_words p) (omega arith) seen, laws.profiles.again p h) refl
+    second_of (line_of (space_words p)) p (plain_words laws (space_words p) seen short) (ap profile_in (words_again laws (space_words p) (omega arith) seen) ∙ laws.profiles.again p h)
 
 -- a text that is read is one of the trace
 read_made :

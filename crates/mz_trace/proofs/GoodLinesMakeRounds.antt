@@ -1,5 +1,5 @@
 -- Lines in their places make the rounds that are read from them.
-use Rattle.std.proofs.Common.{◌≡◌, ℕ, ◌+◌, ◌<◌, Bool, true, false, List, [], ◌∷◌, ◌++◌, eqb, refl, ◌∙◌, append_assoc}
+use Rattle.std.proofs.Common.{◌≡◌, ℕ, true, false, List, [], ◌∷◌, ◌++◌, eqb, refl, append_assoc}
 use Rattle.std.specs.List.{list_all}
 use Rattle.std.proofs.lemmas.Bool.{and_parts, both_ways, or_parts, ltb-true}
 use Rattle.std.proofs.lemmas.List.{append-nil}
@@ -13,14 +13,14 @@ use Rattle.mz_trace.proofs.LinesAreInPlace.{InPlace, all_added, some_begun}
 use Rattle.mz_trace.proofs.RoundsGrow.{round_begins, round_starts, round_calls}
 
 -- a round is open: the lines before it make the rounds before it, and the others make the round
-record IsOpen (callers : ℕ) (r : Reader) (ls : List Line) : Type 0 where
-  begun : eqb r.begun 0 ≡ false
-  front : List Line
-  back : List Line
-  parts : ls ≡ front ++ back
-  are : AreRounds callers front r.rounds
-  is : IsRound callers back (rounded r.open)
-  idle : r.calling ≡ false → is.calls ≡ []
+pub record IsOpen (callers : ℕ) (r : Reader) (ls : List Line) : Type 0 where
+  pub begun : eqb r.begun 0 ≡ false
+  pub front : List Line
+  pub back : List Line
+  pub parts : ls ≡ front ++ back
+  pub are : AreRounds callers front r.rounds
+  pub is : IsRound callers back (rounded r.open)
+  pub idle : r.calling ≡ false → is.calls ≡ []
 
 pub data Stands (callers : ℕ) (r : Reader) (ls : List Line) : Type 0 where
   nothing : eqb r.begun 0 ≡ true → r.rounds ≡ [] → ls ≡ [] → Stands callers r ls

@@ -1,6 +1,6 @@
 -- The lines of a text, one after the other.
-use Rattle.std.proofs.Common.{◌≡◌, ℕ, ◌+◌, List, [], ◌∷◌, length, refl, sym, ◌∙◌, Option, Some, None}
-use Rattle.std.specs.Result.{Ok, Err}
+use Rattle.std.proofs.Common.{◌≡◌, ℕ, ◌+◌, List, [], ◌∷◌, length, refl, ◌∙◌, Option, Some, None}
+use Rattle.std.specs.Prelude.{Ok, Err}
 use Rattle.std.proofs.lemmas.List.{length-replicate}
 use Rattle.mz_words.specs.Lines.{Cut, words_of}
 use Rattle.mz_lines.specs.declared.line.Line.{Line}
@@ -27,11 +27,11 @@ pub starts : (callers : ℕ) (all : List Cut) (r : Reader) → r ≡ fresh calle
 starts callers all r e = rw e (record { lists = length-replicate callers []; same = refl })
 
 pub goes_on :
-    (callers : ℕ) (all : List Cut) (number : ℕ) (left : List Cut) (l : Cut) (ls : List Cut) (old new : Reader) → IsBehind callers all number left old
-    → left ≡ l ∷ ls → Keeps (cut_why callers old l) (with_words callers old (words_of l.text)) new None → IsBehind callers all (number + 1) ls new
-goes_on callers all number left l ls old new h e k = record {
-  lists = rw (k.kept_is refl) (lists_kept callers (words_of l.text) old h.lists);
-  same = h.same ∙ rw e (rw (← k.told, k.kept_is refl) refl);
+    (callers : ℕ) (all : List Cut) (number : ℕ) (left : List Cut) (l : Cut) (ls : List Cut) (old new : Reader) (why : Option Why) → IsBehind callers all number left old
+    → left ≡ l ∷ ls → Keeps (cut_why callers old l) (with_words callers old (words_of l.text)) new why → why ≡ None → IsBehind callers all (number + 1) ls new
+goes_on callers all number left l ls old new why h e k none = record {
+  lists = rw (k.kept_is none) (lists_kept callers (words_of l.text) old h.lists);
+  same = h.same ∙ rw e (rw (← k.told, none, k.kept_is none) refl);
 }
 
 pub stops :

@@ -1,6 +1,6 @@
 -- What is kept of the lines so far is what the whys of the next line ask of their words.
 use Rattle.std.proofs.Common.{◌≡◌, ℕ, ◌+◌, ◌<◌, ◌^◌, Bool, true, false, List, [], ◌∷◌, cond, eqb, arith, refl, sym, ap, ◌∙◌, inl, inr, Option, Some, None, Result, Err, length}
-use Rattle.std.specs.Prelude.{◌||◌, count_by, find}
+use Rattle.std.specs.Prelude.{◌||◌, count_by}
 use Rattle.std.specs.List.{list_any, filter_map}
 use Rattle.std.specs.Option.{option_map_or, option_or}
 use Rattle.std.specs.Result.{result_err}
@@ -43,7 +43,7 @@ pub record HasRead (before : Before) (r : Reader) : Type 0 where
   pub given : (base : List ℕ) → has_name r.given base ≡ stood base before
 
 -- and one more
-at_start : (before : Before) (words : List (List ℕ)) (r : Reader) (o : OpenRound) → begins_round words ≡ false → is_callers words ≡ false → given_in words ≡ None → HasRead before r → HasRead (words ∷ before) (record r { open = o })
+at_start : (before : Before) (words : List (List ℕ)) (r : Reader) (o : OpenRound) → begins_round words ≡ false → is_callers words ≡ false → given_in words ≡ None → HasRead before r → HasRead (words ∷ before) (record r { «open» = o })
 at_start before words r o begins calls gives h = record {
   begun = rw (count_more begins_round words before, begins) h.begun;
   calling = rw (begins, calls) h.calling;
@@ -136,11 +136,12 @@ same_bad n (Some y) b r h = refl
 
 pub same_later : LineLaws → (callers : ℕ) (ls : List Cut) (before : Before) (r : Reader) (n : ℕ) → callers < 2 ^ 64 → HasRead before r → bad_later callers before n ls ≡ result_err (reading callers r n ls)
 same_later laws callers [] before r n few h = refl
-same_later laws callers (l ∷ ls) before r n few h = rw (same_why laws callers before l r few h) (same_bad n (cut_why callers r l) _ _ next) where
-  next : cut_why callers r l ≡ None → bad_later callers (words_of l.text ∷ before) (n + 1) ls ≡ result_err (reading callers (with_words callers r (words_of l.text)) (n + 1) ls)
-  next none =
+same_later laws callers (l ∷ ls) before r n few h =
+    rw (same_why laws callers before l r few h)
+    (same_bad n (cut_why callers r l) (bad_later callers (words_of l.text ∷ before) (n + 1) ls) (reading callers (with_words callers r (words_of l.text)) (n + 1) ls)
+    (λ none.
       let good = good_line laws callers r l none in
-      rw good.is.read (same_later laws callers ls (words_of l.text ∷ before) (added callers good.line r) (n + 1) few (rw (← good.is.words_are) (has_read laws callers good.line before r few good.is.fits h)))
+      rw good.is.read (same_later laws callers ls (words_of l.text ∷ before) (added callers good.line r) (n + 1) few (rw (← good.is.words_are) (has_read laws callers good.line before r few good.is.fits h)))))
 
 -- there is room for a line that is in its place
 pub can_add : LineLaws → (callers : ℕ) (words : List (List ℕ)) (x : Line) (r : Reader) → length r.open.commands ≡ callers → Some x ≡ line_in callers words → None ≡ place_why r x → CanAdd r x

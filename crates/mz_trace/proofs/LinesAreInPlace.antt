@@ -1,6 +1,5 @@
 -- Lines one after the other, and that lines which make rounds are in their places and make those rounds.
-use Rattle.std.proofs.Common.{◌≡◌, ℕ, ◌+◌, ◌<◌, ◌≤◌, Bool, true, false, List, [], ◌∷◌, ◌++◌, map, length, eqb, ltb, cond, arith, refl, sym, ap, ◌∙◌, append_assoc, length-append}
-use Rattle.std.specs.Prelude.{slice_set, slice_index_or}
+use Rattle.std.proofs.Common.{◌≡◌, ℕ, ◌+◌, ◌<◌, ◌≤◌, true, false, List, [], ◌∷◌, ◌++◌, map, length, eqb, ltb, arith, refl, sym, ap, ◌∙◌, append_assoc, length-append}
 use Rattle.std.proofs.Math.ListN.{length-set}
 use Rattle.std.specs.List.{list_all}
 use Rattle.std.proofs.lemmas.Bool.{and_parts, or_parts, lt-leb, leb-false, ltb-true, ne_eqb}
@@ -14,7 +13,7 @@ use Rattle.mz_lines.specs.Lines.{line_fits}
 use Rattle.mz_trace.specs.declared.round.Round.{Round}
 use Rattle.mz_trace.specs.declared.reader.Reader.{Reader}
 use Rattle.mz_trace.specs.Rounds.{Call, call_line, lists_from, IsRound, AreRounds, none, more}
-use Rattle.mz_trace.specs.Readers.{added, blank, fresh, is_misplaced, rounded, rounds_in, with_start}
+use Rattle.mz_trace.specs.Readers.{added, blank, fresh, is_misplaced, rounded, rounds_in}
 use Rattle.mz_trace.proofs.RoundsGrow.{lists_from-nil, pushed}
 
 -- what is kept of lines
@@ -68,7 +67,7 @@ all_counted callers (x ∷ xs) r place h = all_counted callers xs (added callers
 
 -- lines at the start of a round, and commands
 abbrev with_lines : Reader → List RoundLine → Reader
-with_lines r lines = record r { open = record { lines = lines; commands = r.open.commands } }
+with_lines r lines = record r { «open» = record { lines = lines; commands = r.open.commands } }
 
 starts_go : (callers : ℕ) (ss : List RoundLine) (r : Reader) → r.calling ≡ false → eqb r.begun 0 ≡ false
     → InPlace callers r (map start ss) × (all_added callers r (map start ss) ≡ with_lines r (r.open.lines ++ ss))

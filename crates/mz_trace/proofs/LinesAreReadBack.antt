@@ -1,9 +1,8 @@
 -- Lines that are read are those of the text, and lines that keep all rules are read.
 use Rattle.std.proofs.Common.{◌≡◌, ℕ, suc, ◌+◌, ◌*◌, ◌<◌, ◌≤◌, ◌^◌, Bool, true, false, List, [], ◌∷◌, map, length, leb, arith, refl, sym, ap, ◌∙◌, length-append, cond, Option, Some, None, Result}
-use Rattle.std.specs.Prelude.{◌&&◌}
 use Rattle.std.specs.List.{list_all, join_with_byte}
 use Rattle.std.specs.Option.{option_map_or}
-use Rattle.std.specs.Result.{Ok, Err}
+use Rattle.std.specs.Prelude.{Ok, Err, ◌&&◌}
 use Rattle.std.proofs.lemmas.Bool.{and_parts, and_from, le-leb, leb-true}
 use Rattle.mz_words.specs.Lines.{Cut, cuts, words_of, is_plain, line_of, are_visible}
 use Rattle.mz_lines.specs.declared.line.Line.{Line}
@@ -64,7 +63,7 @@ pub record IsReadFrom (callers : ℕ) (r : Reader) (ls : List Cut) (s : Reader) 
   pub once : GivesOnce r lines
   pub kept : s ≡ all_added callers r lines
 
-read_on : {X : Type 0} (n : ℕ) (o : Option Why) (rest : Result X (ℕ × Why)) (s : X) → option_map_or (λ y. Err (bad_at n y)) o rest ≡ Ok s → (o ≡ None) × (rest ≡ Ok s)
+pub read_on : {X : Type 0} (n : ℕ) (o : Option Why) (rest : Result X (ℕ × Why)) (s : X) → option_map_or (λ y. Err (bad_at n y)) o rest ≡ Ok s → (o ≡ None) × (rest ≡ Ok s)
 read_on n None rest s e = (refl, e)
 read_on n (Some y) rest s e = absurd cc
 

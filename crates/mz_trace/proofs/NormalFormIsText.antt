@@ -3,7 +3,6 @@ use Rattle.std.proofs.Common.{◌≡◌, ℕ, zero, suc, ◌+◌, ◌<◌, Bool,
 use Rattle.std.specs.Prelude.{not, count_by, replicate, slice_index_or, slice_set, ◌&&◌}
 use Rattle.std.specs.List.{list_all}
 use Rattle.std.proofs.lemmas.List.{append-nil, length-replicate, map-append}
-use Rattle.std.proofs.lemmas.List.Folds.{list_all-append}
 use Rattle.std.proofs.lemmas.Bool.{and_parts, or_parts, ne_eqb, eq-eqb, ltb-true}
 use Rattle.mz_lines.specs.declared.command.Command.{Command}
 use Rattle.mz_lines.specs.declared.round_line.RoundLine.{RoundLine}
@@ -128,14 +127,16 @@ count_added p callers (start y) r fit lists place =
     let a = count_last p r.rounds (with_start y r.open) in
     let b = count_last p r.rounds r.open in
     let d = ap (count_by p) (map-append start r.open.lines (y ∷ [])) ∙ count_by-push p (map start r.open.lines) (start y) in
-    rw (or_parts _ _ place).0 (omega (arith, a, b, d))
+    let some : eqb r.begun 0 ≡ false = (or_parts _ _ place).0 in
+    rw some (omega (arith, a, b, d))
 count_added p callers (call c k) r fit lists place =
     let e : 0 + c ≡ c = omega arith in
     let below : c < length r.open.commands = rw lists (ltb-true _ _ (and_parts _ _ fit).0) in
     let a = count_last p r.rounds (with_call c k r.open) in
     let b = count_last p r.rounds r.open in
     let d = rw e at (count_set p 0 r.open.commands c k below) in
-    rw place (omega (arith, a, b, d))
+    let some : eqb r.begun 0 ≡ false = place in
+    rw some (omega (arith, a, b, d))
 
 count_all : (p : Line → Bool) (callers : ℕ) (xs : List Line) (r : Reader) → list_all (line_fits callers) xs ≡ true → length r.open.commands ≡ callers → InPlace callers r xs
     → of_rounds p (rounds_in (all_added callers r xs)) ≡ of_rounds p (rounds_in r) + count_by p xs
@@ -172,7 +173,7 @@ pub text_is_trace : (bytes : List ℕ) (t : Trace) → IsTraceText bytes t → I
 text_is_trace bytes t h =
     let c = t.profile.callers in
     let go = rounds_go c h.lines t.rounds h.kept.each h.rounds h.few in
-    let same : (p : Line → Bool) → of_rounds p t.rounds ≡ count_by p h.lines = λ p. ap (of_rounds p) (sym go.1) ∙ count_all p c h.lines (fresh c) h.kept.each (length-replicate c []) go.0 in
+    let same : (p : Line → Bool) → of_rounds p t.rounds ≡ count_by p h.lines = λ p. ap (of_rounds p) (sym go.1) ∙ (let all = count_all p c h.lines (fresh c) h.kept.each (length-replicate c []) go.0 in omega (arith, all)) in
     record {
       kept = record {
         limits = h.kept.limits;

@@ -1,9 +1,9 @@
 -- What reading a text comes to is the trace that it is a text of, or its first bad line.
-use Rattle.std.proofs.Common.{◌≡◌, ℕ, ◌+◌, ◌<◌, ◌≤◌, ◌^◌, Bool, true, false, List, [], ◌∷◌, ◌++◌, map, length, arith, refl, sym, ap, subst, ◌∙◌, append_assoc, Option, Some, None, codes, Result}
-use Rattle.std.specs.Prelude.{MatchResult, IfOk, OnOk, IfErr, ◌↔◌}
+use Rattle.std.proofs.Common.{◌≡◌, ℕ, ◌<◌, ◌≤◌, ◌^◌, Bool, true, false, List, [], ◌∷◌, ◌++◌, map, length, arith, refl, sym, ap, subst, ◌∙◌, append_assoc, Option, Some, None, codes, Result}
+use Rattle.std.specs.Prelude.{Ok, Err, MatchResult, IfOk, OnOk, IfErr, ◌↔◌}
 use Rattle.std.specs.List.{list_all, join_with_byte}
 use Rattle.std.specs.Option.{option_map_or}
-use Rattle.std.specs.Result.{Ok, Err, result_err, result_map_both}
+use Rattle.std.specs.Result.{result_err, result_map_both}
 use Rattle.std.specs.Str.{bytes_eq}
 use Rattle.std.proofs.lemmas.Slice.Eq.{bytes_eq-Decides}
 use Rattle.mz_base.specs.Limits.{IsWithinLimits}
@@ -21,13 +21,15 @@ use Rattle.mz_trace.specs.declared.fault.TraceFault.TheVariants.{Bad, NoMemory}
 use Rattle.mz_trace.specs.declared.reader.Reader.{Reader}
 use Rattle.mz_trace.specs.declared.round.Round.{Round}
 use Rattle.mz_trace.specs.declared.trace.Trace.{Trace}
+use Rattle.mz_trace.specs.Rounds.{AreRounds}
 use Rattle.mz_trace.specs.Texts.{lines_text, first_words, text_of, IsTrace, IsTraceText, HasTrace}
 use Rattle.mz_trace.specs.Faults.{BadLine, Fails, TellsBadLine, bad_line, bad_line_of, callers_in, bad_later, first, second, why_of}
 use Rattle.mz_trace.specs.Readers.{ComesTo, fresh, made, numbers_of, reading, rounds_in, second_in, text_behind, text_read, text_second}
-use Rattle.mz_trace.proofs.GoodLinesMakeRounds.{Stands, nothing, all_stand, are_rounds}
+use Rattle.mz_trace.proofs.GoodLinesMakeRounds.{nothing, all_stand, are_rounds}
 use Rattle.mz_trace.proofs.LineIsKept.{bad_at, same_bad, same_later}
 use Rattle.mz_trace.proofs.LinesAreInPlace.{all_added, all_counted, rounds_go}
 use Rattle.mz_trace.proofs.LinesAreReadBack.{cut_line, cut_lines, ended_of, length-join, plain_words, read_is_text, read_on, text_is_read, words_again}
+use Rattle.mz_trace.proofs.NamesAreNoted.{GivesOnce}
 use Rattle.mz_trace.proofs.NormalFormIsText.{text_is_trace}
 
 abbrev trace_of : Profile → List Round → Trace
@@ -91,8 +93,8 @@ read_made laws bytes l m ls p s cut one two three =
           (cut ∙ ap (λ (c : Cut). c ∷ m ∷ ls) (first_is laws l one) ∙ ap (λ (c : Cut). line_of first_words ∷ c ∷ ls) second_line.0
           ∙ ap (λ (cs : List Cut). line_of first_words ∷ line_of (space_words p) ∷ cs) from.cut ∙ sym (cuts_of_text laws p from.lines second_line.1 from.each));
       kept = record { limits = second_line.1; each = from.each; given_once = λ base. let once = from.once base in omega (arith, once) };
-      rounds = rw from.kept (are_rounds p.callers ended from.lines (all_stand p.callers from.lines (fresh p.callers) [] from.each from.place (nothing refl refl refl)));
-      few = rw from.kept count;
+      rounds = subst (λ (x : Reader). AreRounds p.callers from.lines (rounds_in x)) (sym from.kept) (are_rounds p.callers ended from.lines (all_stand p.callers from.lines (fresh p.callers) [] from.each from.place (nothing refl refl refl)));
+      few = subst (λ (x : Reader). length (rounds_in x) ≤ 4096) (sym from.kept) count;
     }
 
 pub read_text : LineLaws → (bytes : List ℕ) (t : Trace) → text_read (cuts bytes) ≡ Ok t → IsTraceText bytes t
@@ -116,7 +118,7 @@ pub text_has_read : LineLaws → (bytes : List ℕ) (t : Trace) → IsTraceText 
 text_has_read laws bytes t h =
     let p = t.profile in
     let go = rounds_go p.callers h.lines t.rounds h.kept.each h.rounds h.few in
-    let once = λ (base : List ℕ). let o = h.kept.given_once base in omega (arith, o) in
+    let once : GivesOnce (fresh p.callers) h.lines = λ base. let o = h.kept.given_once base in omega (arith, o) in
     let read = text_is_read laws p.callers h.lines (fresh p.callers) 3 (few_callers p h.kept.limits) h.kept.each go.0 once in
     ap (λ (bs : List ℕ). text_read (cuts bs)) h.spelled ∙ ap text_read (cuts_of_text laws p h.lines h.kept.limits h.kept.each) ∙ rw (second_read laws p h.kept.limits, read) (ap (λ (rs : List Round). Ok (trace_of p rs)) go.1)
 

@@ -49,12 +49,12 @@ noted command names = option_map_or (with_name names) (given_by command) names
 
 -- what is kept before the first line, and with one more line
 abbrev pub fresh : ℕ → Reader
-fresh callers = record { begun = 0; calling = false; given = []; rounds = []; open = blank callers }
+fresh callers = record { begun = 0; calling = false; given = []; rounds = []; «open» = blank callers }
 
 abbrev pub added : ℕ → Line → Reader → Reader
-added callers Round r = record { begun = r.begun + 1; calling = false; given = r.given; rounds = rounds_in r; open = blank callers }
-added callers (Start x) r = record r { open = with_start x r.open }
-added callers (Call caller command) r = record r { calling = true; given = noted command r.given; open = with_call caller command r.open }
+added callers Round r = record { begun = r.begun + 1; calling = false; given = r.given; rounds = rounds_in r; «open» = blank callers }
+added callers (Start x) r = record r { «open» = with_start x r.open }
+added callers (Call caller command) r = record r { calling = true; given = noted command r.given; «open» = with_call caller command r.open }
 
 -- a line for which there is room
 abbrev pub CanAdd : Reader → Line → Type 0

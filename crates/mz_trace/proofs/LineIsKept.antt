@@ -140,8 +140,8 @@ same_later laws callers (l ∷ ls) before r n few h =
     rw (same_why laws callers before l r few h)
     (same_bad n (cut_why callers r l) (bad_later callers (words_of l.text ∷ before) (n + 1) ls) (reading callers (with_words callers r (words_of l.text)) (n + 1) ls)
     (λ none.
-      let good = good_line laws callers r l none in
-      rw good.is.read (same_later laws callers ls (words_of l.text ∷ before) (added callers good.line r) (n + 1) few (rw (← good.is.words_are) (has_read laws callers good.line before r few good.is.fits h)))))
+    let good = good_line laws callers r l none in
+    rw good.is.read (same_later laws callers ls (words_of l.text ∷ before) (added callers good.line r) (n + 1) few (rw (← good.is.words_are) (has_read laws callers good.line before r few good.is.fits h)))))
 
 -- there is room for a line that is in its place
 pub can_add : LineLaws → (callers : ℕ) (words : List (List ℕ)) (x : Line) (r : Reader) → length r.open.commands ≡ callers → Some x ≡ line_in callers words → None ≡ place_why r x → CanAdd r x

@@ -98,9 +98,10 @@ round_goes callers r ls w e h lt =
     let some = some_begun r in
     let s = starts_go callers w.lines first refl some in
     let k = calls_go callers h.calls [] (with_lines first w.lines) both.1 some (sym (lists_from-nil 0 callers)) in
-    rw h.parts
-    ((lt-leb 4096 r.begun lt, in_place-append callers first (map start w.lines) (map call_line h.calls) s.0 (rw s.1 k.0)),
-     ap rounds_in (all_added-append callers first (map start w.lines) (map call_line h.calls)) ∙ rw s.1 (k.1 ∙ ap (behind (with_lines first w.lines)) (sym h.lists)))
+    rw h.parts (
+      (lt-leb 4096 r.begun lt, in_place-append callers first (map start w.lines) (map call_line h.calls) s.0 (rw s.1 k.0)),
+      ap rounds_in (all_added-append callers first (map start w.lines) (map call_line h.calls)) ∙ rw s.1 (k.1 ∙ ap (behind (with_lines first w.lines)) (sym h.lists)),
+    )
 
 pub rounds_go : (callers : ℕ) (ls : List Line) (rs : List Round) → list_all (line_fits callers) ls ≡ true → AreRounds callers ls rs → length rs ≤ 4096
     → InPlace callers (fresh callers) ls × (rounds_in (all_added callers (fresh callers) ls) ≡ rs)
@@ -111,6 +112,7 @@ rounds_go callers ls rs fit (more front back before w are is) le =
     let earlier = rounds_go callers front before both.0 are (omega (arith, l, le)) in
     let reached = all_added callers (fresh callers) front in
     let count : length before ≡ reached.begun = rw earlier.1 at (all_counted callers front (fresh callers) earlier.0 (record { count = refl; few = omega arith })).count in
-    let last = round_goes callers reached back w both.1 is (omega (arith, count, l, le)) in
-    (in_place-append callers (fresh callers) front back earlier.0 last.0,
-     ap rounds_in (all_added-append callers (fresh callers) front back) ∙ last.1 ∙ ap (λ (x : List Round). x ++ w ∷ []) earlier.1)
+    let last = round_goes callers reached back w both.1 is (omega (arith, count, l, le)) in (
+      in_place-append callers (fresh callers) front back earlier.0 last.0,
+      ap rounds_in (all_added-append callers (fresh callers) front back) ∙ last.1 ∙ ap (λ (x : List Round). x ++ w ∷ []) earlier.1,
+    )

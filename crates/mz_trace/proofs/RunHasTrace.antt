@@ -20,8 +20,7 @@ use Rattle.mz_lines.specs.Answers.{answer_fits}
 use Rattle.mz_trace.specs.RunTexts.{round_of, trace_of}
 use Rattle.mz_trace.specs.Texts.{IsTrace}
 use Rattle.mz_lines.specs.declared.line.Line.TheVariants.{Round as round, Start as start, Call as call}
-use Rattle.mz_trace.proofs.LineIsKept.{count_more}
-use Rattle.mz_trace.proofs.GoodLinesMakeRounds.{count_by-append}
+use Rattle.mz_trace.proofs.Counting.{count_more, count_by-append}
 
 -- the parts of three tests
 and_three : (a b c : Bool) → (a && b && c) ≡ true → (a ≡ true) × (b ≡ true) × (c ≡ true)

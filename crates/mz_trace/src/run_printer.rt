@@ -3,7 +3,8 @@
 //! Each function but `print_run` adds the text of its name to `out`. After an error a part of that
 //! text may stand there.
 
-ghost use Rattle.std.specs.Prelude.{◌≡◌, ◌++◌, ◌∷◌, IfOk, OnOk, string_bytes, codes, map};
+ghost use Rattle.std.specs.Prelude.{◌≡◌, ◌++◌, ◌∷◌, [], IfOk, OnOk, string_bytes, codes, map};
+ghost use Rattle.std.specs.Fmt.{decimal};
 ghost use Rattle.std.specs.List.{flat_map};
 ghost use Rattle.mz_words.specs.Lines.{line_text};
 ghost use Rattle.mz_trace.specs.declared.tail.Figures.{Figures as figures};
@@ -183,8 +184,14 @@ fn print_statistics(out: &mut String, statistics: Statistics) -> Result<(), Allo
         max_size_in_use,
         size_allocated,
     } = statistics;
-    writeln!(out, "blocks_in_use {blocks_in_use}")?;
-    writeln!(out, "size_in_use {size_in_use}")?;
-    writeln!(out, "max_size_in_use {max_size_in_use}")?;
-    writeln!(out, "size_allocated {size_allocated}")
+    print_statistic(out, "blocks_in_use", blocks_in_use)?;
+    print_statistic(out, "size_in_use", size_in_use)?;
+    print_statistic(out, "max_size_in_use", max_size_in_use)?;
+    print_statistic(out, "size_allocated", size_allocated)
+}
+
+fn print_statistic(out: &mut String, label: &str, value: u64) -> Result<(), AllocError>
+    ensures { OnOk result (string_bytes out.new ≡ string_bytes out.old ++ line_text (label.now ∷ decimal value ∷ [])) }
+{
+    writeln!(out, "{label} {value}")
 }

@@ -22,3 +22,5 @@ mod Flushing
 mod LargeLemmas
 mod Seeking
 mod TwoZones
+mod Refitting
+mod Resizing

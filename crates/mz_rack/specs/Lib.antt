@@ -15,3 +15,5 @@ pub mod BookLaws
 pub mod Flushing
 pub mod Seeking
 pub mod TwoZones
+pub mod Resizing
+pub mod ResizeStages

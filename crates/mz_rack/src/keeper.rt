@@ -25,6 +25,7 @@ ghost use Rattle.mz_rack.specs.Answering.{Placed, FoundRoom, Yielded, Cut};
 ghost use Rattle.mz_rack.specs.Flushing.{Flushed, IsLackedRun, MayPutRunBack};
 ghost use Rattle.mz_large.specs.Large.{run_of_span};
 ghost use Rattle.mz_rack.specs.Ending.{MayFree, IsLacked, MayPutBack};
+ghost use Rattle.mz_rack.specs.ResizeStages.{MayResize, Refits};
 
 use crate::region::AnyRegion;
 use crate::shelf::Shelf;
@@ -335,6 +336,18 @@ impl Keeper {
                 }
                 Err(_) => unreachable!(),
             },
+        }
+    }
+    // Gives a live block of a magazine or a depot `n` bytes where it is. It answers false, and nothing changes, where the
+    // block would grow and the place has no room for that.
+    pub(crate) fn resize(&mut self, span: &mut Span, n: u64) -> bool
+        requires { MayResize self.old span.old n }
+        ensures { (x : Site) (p : profile) (q : place) (k : Kept) → Stands self.old x p q k → IsTrue (is_magazine q || is_depot q) → IsTrue (is_size_of q n) → Refits k span.old n (Stands self.new x p q) result span.new }
+    {
+        match &mut self.kind {
+            Kind::Tiny(shelf) => shelf.magazine.resize(span, n / 16),
+            Kind::Small(shelf) => shelf.magazine.resize(span, n / 512),
+            Kind::Pages(_) | Kind::Large(_) => false,
         }
     }
 }

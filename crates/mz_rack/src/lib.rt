@@ -41,6 +41,7 @@ mod laws;
 mod lot;
 mod rack;
 mod region;
+mod resize;
 mod serve;
 mod shelf;
 mod stock;

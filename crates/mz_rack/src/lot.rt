@@ -12,7 +12,7 @@ use std::marker::Model;
 #[derive(Drop)]
 pub struct Lot {
     zone: u32,
-    span: Span,
+    pub(crate) span: Span,
 }
 
 impl Model for Lot {

@@ -5,15 +5,18 @@ ghost use Rattle.mz_base.specs.Limits.{IsWithinLimits, IsFrom};
 ghost use Rattle.mz_base.specs.Codes.{limits_once};
 ghost use Rattle.mz_rack.specs.Serving.{CanServe, Answers};
 ghost use Rattle.mz_rack.specs.Freeing.{IsFreeable, Frees};
+ghost use Rattle.mz_rack.specs.Resizing.{Resizes};
 
 use crate::free::{deny, end_block};
 use crate::home::find_home;
 use crate::keeper::Keeper;
 use crate::laws::of_books;
 use crate::lot::{Lot, NotLive, Null};
+use crate::resize::{resize_at_home, stays};
 use crate::serve::serve;
 use crate::way::find_way;
-use mz_base::{Profile, route, unit, units};
+use mz_base::laws::good_size_is_least;
+use mz_base::{Profile, Range, route, unit, units};
 use mz_book::Book;
 use mz_events::laws::entries::states_split;
 use mz_record::laws::moments;
@@ -101,5 +104,40 @@ impl Rack {
             let ticket = deny(book, home, self.zone, &lot);
             Err(NotLive { lot, ticket })
         }
+    }
+    /// Gives a block of the rack's zone the size for `n` bytes where it is. It answers false, and nothing changes, exactly
+    /// where the block would have to move: to another range; a large one, that is too small or would waste as much as it
+    /// needs; a tiny or small one, where a quantum that it needs behind it is outside the region or in a live block. One that
+    /// has that size already stays, and so does a large one otherwise.
+    ///
+    /// A tiny or small block that is to have another size is looked for as by `free`, in one place after another.
+    pub fn resize<B: Book<Keeper>, R: Wait>(
+        &self,
+        rt: &R,
+        book: &mut B,
+        lot: &mut Lot,
+        n: u64,
+    ) -> bool
+        requires can { CanServe (B.account book.old) self.now.profile self.now.zone 1 }
+        requires lot { IsFreeable (B.account book.old) lot.old }
+        requires of_zone { lot.old.zone ≡ self.now.zone }
+        requires some { 1 ≤ n }
+        ensures { Resizes (B.account book.old) lot.old n result (B.account book.new) lot.new }
+    {
+        of_books();
+        moments();
+        good_size_is_least();
+        let (s, range) = (lot.size(), route(n));
+        if route(s) != range {
+            return false;
+        }
+        if range == Range::Large {
+            return stays(s, n);
+        }
+        let size = units(n) * unit(range);
+        if size == s {
+            return true;
+        }
+        resize_at_home(rt, book, &self.profile, lot, size)
     }
 }

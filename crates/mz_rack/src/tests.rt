@@ -14,6 +14,7 @@ use std::sync::Wait;
 use std::test::Fail;
 
 mod freeing;
+mod resizing;
 mod zones;
 
 const TINY: Place = Place::Tiny { zone: 0, mag: 0 };

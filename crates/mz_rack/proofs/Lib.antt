@@ -24,3 +24,4 @@ mod Seeking
 mod TwoZones
 mod Refitting
 mod Resizing
+mod StillMine

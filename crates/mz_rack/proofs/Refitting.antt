@@ -1,5 +1,5 @@
 -- A keeper of regions gives a live block another size, for each place for which it stands.
-use Rattle.std.proofs.Common.{◌≡◌, ℕ, ◌*◌, ◌/◌, ◌<◌, ◌≤◌, Bool, true, false, length, take, sym, subst, arith}
+use Rattle.std.proofs.Common.{◌≡◌, ℕ, ◌*◌, ◌/◌, ◌<◌, ◌≤◌, Bool, true, false, length, take, sym, subst, inl, inr}
 use Rattle.std.specs.Prelude.{◌||◌, min, IsTrue}
 use Rattle.std.specs.Bool.{MatchBool}
 use Rattle.std.proofs.lemmas.Bool.{false≢true, cases_lt}
@@ -12,7 +12,9 @@ use Rattle.mz_events.specs.declared.place.Place.{Place}
 use Rattle.mz_events.specs.Places.{is_magazine, is_depot, is_size_of}
 use Rattle.mz_events.specs.State.{Kept}
 use Rattle.mz_events.specs.Changes.{resized}
-use Rattle.mz_events.specs.Standing.{RegionsKept, StandsForRegions}
+use Rattle.mz_events.specs.Standing.{RegionsKept, StandsForRegions, Stands}
+use Rattle.mz_rack.specs.declared.keeper.Kind.{Kind}
+use Rattle.mz_rack.specs.Kinds.{keeping_of}
 use Rattle.mz_rack.specs.Shelves.{IsShelf}
 use Rattle.mz_rack.specs.FreeStages.{block_in}
 use Rattle.mz_rack.specs.ResizeStages.{has_room_to, Refits}
@@ -48,3 +50,7 @@ refits Q N x p q k n v u s t r shelf st regions size h fits shrinks =
     subst (λ j. Refits j s n (λ i. StandsForRegions u x p q i) r t) st.keeps
     (refits_by x p q n v u s t r (by_itself v x p q k st) (subst (λ m. Changes m v s r u t) bytes h)
     (subst (λ m. r ≡ has_room_to v.kept (block_in s) m) bytes (fits (whole_pages Q N shelf.shape))) (subst (λ m. m ≤ length s.bytes → r ≡ true) bytes shrinks))
+
+pub refits_then : (x : Site) (p : Profile) (q : Place) (k : Kept) (s : SpanView) (n : ℕ) (i j : Kind) (r a : Bool) (t u : SpanView) → j ≡ i → a ≡ r → u ≡ t → Refits k s n (Stands (keeping_of i) x p q) r t → Refits k s n (Stands (keeping_of j) x p q) a u
+refits_then x p q k s n i j r a t u same answer span h =
+    subst (λ y. Refits k s n (Stands (keeping_of y) x p q) a u) (sym same) (subst (λ y. Refits k s n (Stands (keeping_of i) x p q) y u) (sym answer) (subst (λ y. Refits k s n (Stands (keeping_of i) x p q) r y) (sym span) h))

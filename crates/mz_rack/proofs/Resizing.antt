@@ -1,7 +1,7 @@
 -- A block gets another size in the place where it lives, or is hemmed in there, or its sizes alone tell that it stays or moves.
 use Rattle.std.proofs.Common.{◌≡◌, ℕ, ◌+◌, ◌*◌, ◌<◌, ◌≤◌, ◌==◌, Bool, true, false, not, List, [], ◌∷◌, length, take, refl, ap, sym, subst, ◌∙◌, arith, inl, inr, ◌⊎◌, ⊎_elim, Some, None, eq-eqb}
 use Rattle.std.specs.Prelude.{◌≢◌, ◌%◌, ◌&&◌, ◌||◌, nat_le, min, IsTrue}
-use Rattle.std.specs.List.{list_any}
+use Rattle.std.specs.List.{list_any, list_all}
 use Rattle.std.proofs.Math.Seq.{take-length}
 use Rattle.std.proofs.lemmas.Bool.{and_parts, and_from, or_right, false≢true, leb-true, lt-leb, cases_Bool, cond-false}
 use Rattle.mz_base.specs.declared.profile.Profile.{Profile}
@@ -10,12 +10,13 @@ use Rattle.mz_base.specs.declared.range.Range.TheVariants as range
 use Rattle.mz_base.specs.declared.range.TheConstants.{PAGE}
 use Rattle.mz_base.specs.Limits.{IsWithinLimits}
 use Rattle.mz_base.specs.Sizes.{route_of, good_size_of, is_size}
-use Rattle.mz_base.specs.Space.{Block, block_at, block_end}
+use Rattle.mz_base.specs.Space.{Block, block_at, block_end, run_end, blocks_apart}
 use Rattle.mz_base.specs.Room.{lies_in}
 use Rattle.mz_base.specs.Lists.{has_block}
 use Rattle.mz_ground.specs.Views.{SpanView}
 use Rattle.mz_events.specs.declared.place.Place.{Place}
 use Rattle.mz_events.specs.declared.place.Place.TheVariants.{Pages, Tiny, TinyDepot, Small, SmallDepot, Large, Nano}
+use Rattle.mz_events.specs.declared.event.Event.{Event}
 use Rattle.mz_events.specs.declared.event.Event.TheVariants.{Size}
 use Rattle.mz_events.specs.declared.entry.Entry.{Entry}
 use Rattle.mz_events.specs.Places.{is_magazine, is_depot, is_large, is_nano, is_size_of, quantum_of, nano_start, zone_of, Spot, keeper_at, spot_at, spot_of, place_of}
@@ -126,10 +127,10 @@ module _ (L : BookLaws) (F : FormsLaw) (s : Account) (q : Place) (l : LotView) (
   pub in_region : not (lies_in_nano_pages s.profile b) ≡ true
   in_region =
       let home = subst (λ j. LiesAtHome s.profile (state_of s) j b) (spot_is_keeper q no_nano) ((L.separate s.profile s.seen lawful).at_home (spot_of q) b h.live) in
-      let parts = and_parts _ _ home.2 in
+      let parts = and_parts (nat_le (home.0.first * PAGE) b.first) (nat_le (block_end b) (run_end home.0 * PAGE)) home.2 in
       let some = (L.ascending s.profile s.seen lawful).sizes (spot_of q) b h.live in
       let below = (L.separate s.profile s.seen lawful).below_nano (keeper_at q) home.0 home.1 in
-      let ends = leb-true _ _ parts.1 in
+      let ends = leb-true (block_end b) (run_end home.0 * PAGE) parts.1 in
       ap not (lt-leb (nano_start s.profile * PAGE) b.first (omega (arith, some, below, ends)))
 
   module _ (n : ℕ) (size : is_size_of q n ≡ true) where
@@ -139,9 +140,9 @@ module _ (L : BookLaws) (F : FormsLaw) (s : Account) (q : Place) (l : LotView) (
     pub can_resize : s.caller < s.profile.callers → 1 ≤ s.spare → has_room_to kept b n ≡ true → CanNote s e
     can_resize c room fits =
         let at = sym (spot_is b.first) in
-        let parts = and_parts _ _ fits in
+        let parts = and_parts (list_any (λ r. lies_in r b.first (b.first + n)) kept.runs) (list_all (λ c. (c.first == b.first) || blocks_apart c (block_at b.first n)) kept.live) fits in
         let lies : lies_in_place s.profile q kept.runs (block_at b.first n) ≡ true =
-        cond-false (is_nano q) _ _ no_nano ∙ and_from _ _ parts.0 (or_right (is_large q) _ (and_from (b.first % quantum_of q == 0) (n % quantum_of q == 0) (eq-eqb _ _ quanta) (eq-eqb _ _ (whole_size q n h.regions size)))) in
+        cond-false (is_nano q) _ _ no_nano ∙ and_from _ _ parts.0 (or_right (is_large q) _ (and_from _ _ (eq-eqb (b.first % quantum_of q) 0 quanta) (eq-eqb (n % quantum_of q) 0 (whole_size q n h.regions size)))) in
         can_note s e room refl h.in_hand no_nano
         (λ j y. held_at s j (spot_of q) (one_spot L j (spot_at q b.first) y ∙ spot_is b.first) here)
         (((L.fits s.profile (state_of s) s.caller).resize q b.first b.size n).1 (record {
@@ -158,19 +159,7 @@ module _ (L : BookLaws) (F : FormsLaw) (s : Account) (q : Place) (l : LotView) (
       pub since : GrowsHolding s (entry_at i s.caller e ∷ []) 0 t
       since = L.note s t e i can refl y
 
-      left : known t (spot_of q) ≡ left_by s.caller e (resized b (block_at b.first n) kept) None
-      left =
-          let at = spot_is b.first in
-          let found = learn_touched s e i t (spot_at q b.first) y (held_at s (spot_at q b.first) (spot_of q) at here) (rw (same_spot_refl L (spot_at q b.first)) refl) ∙ (L.leaves (state_of s) s.caller).resize q b.first b.size n in
-          subst (λ j. known t j ≡ left_by s.caller e (resized b (block_at b.first n) (known s j).kept) None) at found
-
-      pub calm_then : (known t (spot_of q)).duty ≡ None
-      calm_then = ap (λ (v : Value). v.duty) left
-
-      pub keeps_then : (v : Keeping) → Stands v s.site s.profile q (resized b (block_at b.first n) kept) → Keeps t q v
-      keeps_then v st = stands_then s t q _ _ v since.grows.adds.same (ap (λ (v : Value). v.kept) left) st
-
-      pub held_then : t.held ≡ keeper_of s.profile q ∷ []
+      held_then : t.held ≡ keeper_of s.profile q ∷ []
       held_then = ap (λ (u : Account). u.held) y.after ∙ h.held
 
       pub settled : (k : ℕ) (u : Account) (m : LotView) → k ≡ keeper_of s.profile q → Releases t k u → m.zone ≡ l.zone → IsRefit l.span n m.span → IsSettled s l n true u m
@@ -192,7 +181,7 @@ module _ (L : BookLaws) (F : FormsLaw) (s : Account) (q : Place) (l : LotView) (
         );
       }
 
-    pub hemmed : (k : ℕ) (u : Account) (m : LotView) → k ≡ keeper_of s.profile q → Releases s k u → m ≡ l → b.size < n → has_room_to kept b n ≡ false → IsSettled s l n false u m
+    hemmed : (k : ℕ) (u : Account) (m : LotView) → k ≡ keeper_of s.profile q → Releases s k u → m ≡ l → b.size < n → has_room_to kept b n ≡ false → IsSettled s l n false u m
     hemmed k u m number r same grows none = record {
       mine = [];
       holds = 0;
@@ -201,6 +190,10 @@ module _ (L : BookLaws) (F : FormsLaw) (s : Account) (q : Place) (l : LotView) (
       in_region = in_region;
       done = (refl, same, grows, subst (λ (v : Account). IsHemmedIn (state_of v) b n) (sym r.after) (q, h.regions, h.live, ap not none));
     }
+
+    -- where the keeper refuses
+    pub refused : (k : ℕ) (u : Account) (y : SpanView) (is : Kept → Type 0) → k ≡ keeper_of s.profile q → Releases s k u → Refits kept l.span n is false y → IsSettled s l n false u (record { zone = l.zone; span = y })
+    refused k u y is number r told = hemmed k u (record { zone = l.zone; span = y }) number r (ap (λ x. record { zone = l.zone; span = x }) told.2) told.1 told.0
 
 -- after others came
 pub settled_later : (L : BookLaws) (s t u : Account) (l m : LotView) (n holds : ℕ) (got : Bool) → GrowsHolding s [] holds t → IsSettled t l n got u m → IsSettled s l n got u m

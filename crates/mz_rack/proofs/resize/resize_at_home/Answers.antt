@@ -1,0 +1,27 @@
+use Rattle.std.proofs.Common.{sym, subst, true, ◌≡◌}
+use Rattle.mz_events.specs.declared.place.Place.{Place}
+use Rattle.mz_events.specs.Places.{is_size_of}
+use Rattle.mz_rack.proofs.Resizing.{size_there, settled_later}
+use Rattle.mz_rack.proofs.resize.resize_at_home.Goals as goal
+
+pub resize_in-requires-clause-size : goal.resize_in-requires-clause-size
+resize_in-requires-clause-size g c =
+    let t = g.B.Book.account c.find_home.new.book in
+    size_there c.of_books.ensures c.live_blocks_have_their_forms.ensures t c.in-Magazine.way.magazine c.args.lot.now c.in-Magazine.ensures.home.1.1 (g.met.B.Book.orderly c.find_home.new.book).lawful c.args.size c.requires.size
+
+pub resize_in-requires-in-Depot-clause-size : goal.resize_in-requires-in-Depot-clause-size
+resize_in-requires-in-Depot-clause-size g c =
+    let t = g.B.Book.account c.find_home.new.book in
+    let home = c.in-Depot.ensures.home in
+    subst (λ (q : Place). is_size_of q c.args.size ≡ true) (sym home.1.0.depot)
+    (size_there c.of_books.ensures c.live_blocks_have_their_forms.ensures t _ c.args.lot.now home.1.1 (g.met.B.Book.orderly c.find_home.new.book).lawful c.args.size c.requires.size)
+
+pub returns-in-Magazine : goal.returns-in-Magazine
+returns-in-Magazine g c =
+    settled_later c.of_books.ensures (g.B.Book.account c.args.book.now) (g.B.Book.account c.find_home.new.book) (g.B.Book.account c.resize_in.new.book) c.args.lot.now c.resize_in.new.lot c.args.size c.find_home.ensures.holds c.resize_in.result
+    c.find_home.ensures.since c.resize_in.ensures
+
+pub returns-in-Depot : goal.returns-in-Depot
+returns-in-Depot g c =
+    settled_later c.of_books.ensures (g.B.Book.account c.args.book.now) (g.B.Book.account c.find_home.new.book) (g.B.Book.account c.resize_in-in-Depot.new.book) c.args.lot.now c.resize_in-in-Depot.new.lot c.args.size c.find_home.ensures.holds c.resize_in-in-Depot.result
+    c.find_home.ensures.since c.resize_in-in-Depot.ensures

@@ -91,8 +91,16 @@ routed_alike n g h =
         ]
     ]
 
+-- a block of large isn't small
+pub none_in_large : FormsLaw → (s : Account) (z : ℕ) (l : LotView) → LivesIn s (Large z) (block_of l) → AreLawful s.profile opening s.seen → length l.span.bytes ≤ 32768 → ⊥
+none_in_large F s z l h lawful small =
+    let n = length l.span.bytes in
+    let form = (F s.profile s.seen (spot_of (Large z)) (block_of l) lawful h.live).size in
+    let least = leb-true 49152 n (and_parts (n % PAGE == 0) (nat_le 49152 n) form).1 in
+    omega (arith, least, small)
+
 -- THE PLACE where the block lives, and n, a size there
-module _ (L : BookLaws) (F : FormsLaw) (s : Account) (q : Place) (l : LotView) (h : LivesIn s q (block_of l)) (lawful : AreLawful s.profile opening s.seen) where
+module _ (L : BookLaws) (F : FormsLaw) (s : Account) (q : Place) (l : LotView) (h : LivesIn s q (block_of l)) (regions : (is_magazine q || is_depot q) ≡ true) (lawful : AreLawful s.profile opening s.seen) where
   abbrev b : Block
   b = block_of l
 
@@ -103,7 +111,7 @@ module _ (L : BookLaws) (F : FormsLaw) (s : Account) (q : Place) (l : LotView) (
   no_nano = plain L s q b h
 
   spot_is : (a : ℕ) → spot_at q a ≡ spot_of q
-  spot_is a = (L.regions q h.regions).one_spot a
+  spot_is a = (L.regions q regions).one_spot a
 
   here : holds_spot s (spot_of q) ≡ true
   here = L.held s.profile s.held q no_nano ∙ (ap (λ x. is_among x (keeper_of s.profile q)) h.held ∙ rw (same_number (keeper_of s.profile q)) refl)
@@ -118,11 +126,11 @@ module _ (L : BookLaws) (F : FormsLaw) (s : Account) (q : Place) (l : LotView) (
   own_size = subst (λ k. is_size_of k b.size ≡ true) place_is form.size
 
   pub size_there : (n : ℕ) → is_size (route_of b.size) n ≡ true → is_size_of q n ≡ true
-  size_there n size = size_here q b.size n h.regions own_size size
+  size_there n size = size_here q b.size n regions own_size size
 
   quanta : b.first % quantum_of q ≡ 0
   quanta = subst (λ k. b.first % quantum_of k ≡ 0) place_is
-      (form.quanta (ap is_large place_is ∙ (L.regions q h.regions).not_large) (ap is_nano place_is ∙ no_nano))
+      (form.quanta (ap is_large place_is ∙ (L.regions q regions).not_large) (ap is_nano place_is ∙ no_nano))
 
   pub in_region : not (lies_in_nano_pages s.profile b) ≡ true
   in_region =
@@ -142,12 +150,12 @@ module _ (L : BookLaws) (F : FormsLaw) (s : Account) (q : Place) (l : LotView) (
         let at = sym (spot_is b.first) in
         let parts = and_parts (list_any (λ r. lies_in r b.first (b.first + n)) kept.runs) (list_all (λ c. (c.first == b.first) || blocks_apart c (block_at b.first n)) kept.live) fits in
         let lies : lies_in_place s.profile q kept.runs (block_at b.first n) ≡ true =
-        cond-false (is_nano q) _ _ no_nano ∙ and_from _ _ parts.0 (or_right (is_large q) _ (and_from _ _ (eq-eqb (b.first % quantum_of q) 0 quanta) (eq-eqb (n % quantum_of q) 0 (whole_size q n h.regions size)))) in
+        cond-false (is_nano q) _ _ no_nano ∙ and_from _ _ parts.0 (or_right (is_large q) _ (and_from _ _ (eq-eqb (b.first % quantum_of q) 0 quanta) (eq-eqb (n % quantum_of q) 0 (whole_size q n regions size)))) in
         can_note s e room refl h.in_hand no_nano
         (λ j y. held_at s j (spot_of q) (one_spot L j (spot_at q b.first) y ∙ spot_is b.first) here)
         (((L.fits s.profile (state_of s) s.caller).resize q b.first b.size n).1 (record {
           standing = record { caller = c; exists = h.exists; zone_open = h.zone_open };
-          kind = h.regions;
+          kind = regions;
           calm = subst (λ j. (known s j).duty ≡ None) at h.calm;
           live = subst (λ j. has_block (known s j).kept.live b ≡ true) at h.live;
           size = size;
@@ -188,7 +196,7 @@ module _ (L : BookLaws) (F : FormsLaw) (s : Account) (q : Place) (l : LotView) (
       grows = L.release s s u [] 0 k (L.nothing s).grows r;
       nothing_held = ap (λ (v : Account). v.held) r.after ∙ (ap (λ x. without k x) (h.held ∙ ap (λ x. x ∷ []) (sym number)) ∙ rw (same_number k) refl);
       in_region = in_region;
-      done = (refl, same, grows, subst (λ (v : Account). IsHemmedIn (state_of v) b n) (sym r.after) (q, h.regions, h.live, ap not none));
+      done = (refl, same, grows, subst (λ (v : Account). IsHemmedIn (state_of v) b n) (sym r.after) (q, regions, h.live, ap not none));
     }
 
     -- where the keeper refuses
@@ -208,20 +216,6 @@ settled_later L s t u l m n holds got x y = record {
 
 -- THE LOT, which is to hold n bytes
 module _ (L : BookLaws) (s : Account) (p : Profile) (z : ℕ) (l : LotView) (can : CanServe s p z 1) (lot : IsFreeable s l) (of_zone : l.zone ≡ z) where
-  pub can_look_there : IsWithinLimits p → IsOrderly s → z < p.zones → length l.span.bytes ≤ 32768 → CanLook s p l
-  can_look_there limits orderly below small =
-      let live = L.somewhere s (block_of l) orderly lot.in_hand in
-      record {
-        limits = limits;
-        profile = can.profile;
-        nothing_held = can.nothing_held.keepers;
-        zone = subst (λ x. x < p.zones) (sym of_zone) below;
-        zone_open = ap (λ x. is_open (state_of s) x) of_zone ∙ can.zone_open;
-        some = (L.ascending s.profile s.seen orderly.lawful).sizes live.0 (block_of l) live.1;
-        small = small;
-        in_hand = lot.in_hand;
-      }
-
   module _ (n : ℕ) where
     keeps_all : KeepsBytes l l
     keeps_all = record { zone = refl; space = refl; bytes = refl }

@@ -1,8 +1,8 @@
 //! How a block gets another size where it is.
-ghost use Rattle.std.specs.Prelude.{◌≡◌, ◌≤◌, length, IsTrue};
+ghost use Rattle.std.specs.Prelude.{◌≡◌, ◌≤◌, ◌||◌, length, IsTrue};
 ghost use Rattle.mz_base.specs.declared.range.Range.TheVariants as range;
 ghost use Rattle.mz_base.specs.Sizes.{route_of, good_size_of, is_size};
-ghost use Rattle.mz_events.specs.Places.{is_size_of};
+ghost use Rattle.mz_events.specs.Places.{is_magazine, is_depot, is_size_of};
 ghost use Rattle.mz_record.specs.Resized.{stays_large};
 ghost use Rattle.mz_book.specs.Keepers.{keeper_of};
 ghost use Rattle.mz_rack.specs.Stages.{Keeps};
@@ -31,7 +31,7 @@ pub(crate) fn stays(s: u64, n: u64) -> bool
     }
 }
 
-/// Gives a block `size` bytes, which are a size of its range, in the region where it lives. It answers false, and nothing
+/// Gives a tiny or small block `size` bytes, which are a size of its range, in the region where it lives. It answers false, and nothing
 /// changes, where the quanta that follow don't allow it. Nothing is held afterwards.
 pub(crate) fn resize_at_home<B: Book<Keeper>, R: Wait>(
     rt: &R,
@@ -42,6 +42,7 @@ pub(crate) fn resize_at_home<B: Book<Keeper>, R: Wait>(
 ) -> bool
     requires look { CanLook (B.account book.old) p.now lot.old }
     requires space { lot.old.span.space ≡ (B.account book.old).site }
+    requires small { length lot.old.span.bytes ≤ 32768 }
     requires size { IsTrue (is_size (route_of (length lot.old.span.bytes)) size) }
     requires room { 1 ≤ (B.account book.old).spare }
     ensures { IsSettled (B.account book.old) lot.old size result (B.account book.new) lot.new }
@@ -53,6 +54,7 @@ pub(crate) fn resize_at_home<B: Book<Keeper>, R: Wait>(
             resize_in(book, way.magazine, way.k, magazine, lot, size)
         }
         Home::Depot(way, depot) => resize_in(book, way.depot, way.d, depot, lot, size),
+        Home::Large(_, _) => unreachable!(),
     }
 }
 
@@ -66,6 +68,7 @@ fn resize_in<B: Book<Keeper>>(
     size: u64,
 ) -> bool
     requires lives { LivesIn (B.account book.old) place (block_of lot.old) }
+    requires regions { IsTrue (is_magazine place || is_depot place) }
     requires number { number ≡ keeper_of (B.account book.old).profile place }
     requires stands { Keeps (B.account book.old) place keeper }
     requires space { lot.old.span.space ≡ (B.account book.old).site }

@@ -22,9 +22,9 @@ returns-then-not-resize g c =
     let y = c.resize.new.span in
     let kept = (known s (spot_of q)).kept in
     let is = Stands c.resize.new.self s.site s.profile q in
-    let told = subst (λ (x : LotView). Refits kept x.span n is c.resize.result y) c.lot.view_is (c.resize.ensures s.site s.profile q kept c.requires.stands c.requires.lives.regions c.requires.size) in
+    let told = subst (λ (x : LotView). Refits kept x.span n is c.resize.result y) c.lot.view_is (c.resize.ensures s.site s.profile q kept c.requires.stands c.requires.regions c.requires.size) in
     subst (λ z. IsSettled s l n false u (record { zone = z; span = y })) (ap (λ (x : LotView). x.zone) (sym c.lot.view_is))
-    (refused L F s q l c.requires.lives (g.met.B.Book.orderly c.args.book.now).lawful n c.requires.size c.args.number u y is c.requires.number c.release.ensures
+    (refused L F s q l c.requires.lives c.requires.regions (g.met.B.Book.orderly c.args.book.now).lawful n c.requires.size c.args.number u y is c.requires.number c.release.ensures
     (subst (λ r. Refits kept l.span n is r y) c.if-not-resize.true told))
 
 pub note-requires : goal.note-requires
@@ -39,9 +39,9 @@ note-requires g c =
     let y = c.resize.new.span in
     let kept = (known s (spot_of q)).kept in
     let is = Stands c.resize.new.self s.site s.profile q in
-    let told = subst (λ (x : LotView). Refits kept x.span n is c.resize.result y) c.lot.view_is (c.resize.ensures s.site s.profile q kept c.requires.stands c.requires.lives.regions c.requires.size) in
+    let told = subst (λ (x : LotView). Refits kept x.span n is c.resize.result y) c.lot.view_is (c.resize.ensures s.site s.profile q kept c.requires.stands c.requires.regions c.requires.size) in
     let yes = subst (λ r. Refits kept l.span n is r y) c.if-not-resize.false told in
-    let can = can_resize L F s q l c.requires.lives ord.lawful n c.requires.size ord.caller c.requires.room yes.0 in
+    let can = can_resize L F s q l c.requires.lives c.requires.regions ord.lawful n c.requires.size ord.caller c.requires.room yes.0 in
     subst (λ b. CanNote s (Size q c.first-a.result b n)) (sym c.size-s.ensures) (subst (λ a. CanNote s (Size q a (block_of l).size n)) (sym c.first-a.ensures) can)
 
 pub returns : goal.returns
@@ -58,8 +58,8 @@ returns g c =
     let y = c.resize.new.span in
     let kept = (known s (spot_of q)).kept in
     let is = Stands c.resize.new.self s.site s.profile q in
-    let told = subst (λ (x : LotView). Refits kept x.span n is c.resize.result y) c.lot.view_is (c.resize.ensures s.site s.profile q kept c.requires.stands c.requires.lives.regions c.requires.size) in
+    let told = subst (λ (x : LotView). Refits kept x.span n is c.resize.result y) c.lot.view_is (c.resize.ensures s.site s.profile q kept c.requires.stands c.requires.regions c.requires.size) in
     let yes = subst (λ r. Refits kept l.span n is r y) c.if-not-resize.false told in
-    let can = can_resize L F s q l c.requires.lives ord.lawful n c.requires.size ord.caller c.requires.room yes.0 in
+    let can = can_resize L F s q l c.requires.lives c.requires.regions ord.lawful n c.requires.size ord.caller c.requires.room yes.0 in
     let noted = subst (λ a. Notes s (Size q a (block_of l).size n) c.note.result t) c.first-a.ensures (subst (λ b. Notes s (Size q c.first-a.result b n) c.note.result t) c.size-s.ensures c.note.ensures) in
-    settled L F s q l c.requires.lives ord.lawful n c.requires.size c.note.result t can noted c.args.number u (record { zone = c.lot.inside.zone; span = y }) c.requires.number c.release-2.ensures (ap (λ (x : LotView). x.zone) c.lot.view_is) yes.1
+    settled L F s q l c.requires.lives c.requires.regions ord.lawful n c.requires.size c.note.result t can noted c.args.number u (record { zone = c.lot.inside.zone; span = y }) c.requires.number c.release-2.ensures (ap (λ (x : LotView). x.zone) c.lot.view_is) yes.1

@@ -32,7 +32,7 @@ resize_in-requires-in-Depot-clause-size g c =
 pub unreachable-requires : goal.unreachable-requires
 unreachable-requires g c =
     let t = g.B.Book.account c.find_home.new.book in
-    none_in_large c.live_blocks_have_their_forms.ensures t c.in-Large.way.zone c.args.lot.now c.in-Large.ensures.home.1.1 (g.met.B.Book.orderly c.find_home.new.book).lawful c.requires.small
+    none_in_large c.live_blocks_have_their_forms.ensures t c.in-Large.field-0.zone c.args.lot.now c.in-Large.ensures.home.1.1 (g.met.B.Book.orderly c.find_home.new.book).lawful c.requires.small
 
 pub returns-in-Magazine : goal.returns-in-Magazine
 returns-in-Magazine g c =

@@ -8,7 +8,7 @@ use Rattle.mz_record.specs.Resized.{stays_large}
 use Rattle.mz_rack.specs.Freeing.{block_of}
 use Rattle.mz_rack.specs.Resizing.{Resizes}
 use Rattle.mz_rack.specs.ResizeStages.{IsSettled}
-use Rattle.mz_rack.proofs.Resizing.{routed_alike, can_look_there, of_another_range, of_same_size, of_large, resizes}
+use Rattle.mz_rack.proofs.Resizing.{routed_alike, of_another_range, of_same_size, of_large, resizes}
 use Rattle.mz_rack.proofs.rack.Rack.resize.Goals as goal
 
 pub returns-then-ne : goal.returns-then-ne

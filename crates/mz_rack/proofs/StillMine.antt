@@ -13,11 +13,10 @@ use Rattle.mz_events.specs.declared.event.Event.{Event}
 use Rattle.mz_events.specs.declared.event.Event.TheVariants.{Size}
 use Rattle.mz_events.specs.declared.place.Place.{Place}
 use Rattle.mz_events.specs.Hands.{hand_after, hand_through}
-use Rattle.mz_events.specs.State.{is_open}
 use Rattle.mz_record.specs.Served.{events}
 use Rattle.mz_record.specs.Dropped.{IsDropped}
 use Rattle.mz_record.specs.Resized.{IsResized, same_size, in_place as resized_in_place, still_large}
-use Rattle.mz_book.specs.Account.{Account, state_of, hand}
+use Rattle.mz_book.specs.Account.{Account, hand}
 use Rattle.mz_book.specs.Pairs.{hand_among}
 use Rattle.mz_book.specs.Growth.{Adds}
 use Rattle.mz_book.specs.Plain.{Reserves}
@@ -36,6 +35,10 @@ use Rattle.mz_rack.proofs.Asked.{HandLaws}
 has_before : (bs cs : List Block) (b : Block) → has_block bs b ≡ true → has_block (bs ++ cs) b ≡ true
 has_before [] cs b h = absurd (false≢true h)
 has_before (x ∷ bs) cs b h = or_elim (same_block b x) (has_block bs b) (λ y. or_left (same_block b x) (has_block (bs ++ cs) b) y) (λ y. or_right (same_block b x) (has_block (bs ++ cs) b) (has_before bs cs b y)) h
+
+has_behind : (bs cs : List Block) (b : Block) → has_block cs b ≡ true → has_block (bs ++ cs) b ≡ true
+has_behind [] cs b h = h
+has_behind (x ∷ bs) cs b h = or_right (same_block b x) (has_block (bs ++ cs) b) (has_behind bs cs b h)
 
 -- a block that begins elsewhere than the one that is dropped is there still
 has_others : (bs : List Block) (b c : Block) → b.first ≢ c.first → has_block bs b ≡ true → has_block (drop_block c bs) b ≡ true
@@ -65,22 +68,24 @@ has_changed (x ∷ bs) b c h =
 hand_then : HandLaws → (s t : Account) (es : List Entry) (n : ℕ) → Adds s es n t → hand t ≡ hand_through (hand s) es
 hand_then H s t es n g = ap (λ c. hand_among c t.pairs) g.same.caller ∙ (ap (λ ps. hand_among s.caller ps) g.pairs ∙ H.through s.caller s.pairs es)
 
-still : (s t : Account) (es : List Entry) (n : ℕ) (l m : LotView) → Adds s es n t → IsFreeable s l → m.zone ≡ l.zone → m.span.space ≡ l.span.space → has_block (hand t) (block_of m) ≡ true → IsFreeable t m
-still s t es n l m g lot zone space there = record {
-  in_hand = there;
-  zone = subst (λ z. z < t.profile.zones) (sym zone) (subst (λ (p : Profile). l.zone < p.zones) (sym g.same.profile) lot.zone);
-  zone_open = ap (λ z. is_open (state_of t) z) zone ∙ (g.zones l.zone ∙ lot.zone_open);
-  space = space ∙ (lot.space ∙ sym g.same.site);
-}
+still : (s t : Account) (es : List Entry) (n : ℕ) (l m : LotView) → Adds s es n t → IsFreeable s l → m.span.space ≡ l.span.space → has_block (hand t) (block_of m) ≡ true → IsFreeable t m
+still s t es n l m g lot space there = record { in_hand = there; space = space ∙ (lot.space ∙ sym g.same.site) }
 
 pub still_with : (s t : Account) (n : ℕ) (l : LotView) → IsFreeable s l → Reserves s n t → IsFreeable t l
-still_with s t n l lot more = subst (λ u. IsFreeable u l) (sym more.after) (record { in_hand = lot.in_hand; zone = lot.zone; zone_open = lot.zone_open; space = lot.space })
+still_with s t n l lot more = subst (λ u. IsFreeable u l) (sym more.after) (record { in_hand = lot.in_hand; space = lot.space })
 
 pub still_served : HandLaws → (s t : Account) (z n al : ℕ) (got : Result LotView Null) (l : LotView) → Answers s z n al got t → IsFreeable s l → IsFreeable t l
 still_served H s t z n al got l a lot =
     let adds = a.grows.adds in
     let hand_is = hand_then H s t a.mine _ adds ∙ H.served s.profile t.seen (request_of s.caller z n al) a.mine (block_got got) (hand s) a.serves.served in
-    still s t a.mine _ l l adds lot refl refl (ap (λ h. has_block h (block_of l)) hand_is ∙ has_before (hand s) (option_to_list (block_got got)) (block_of l) lot.in_hand)
+    still s t a.mine _ l l adds lot refl (ap (λ h. has_block h (block_of l)) hand_is ∙ has_before (hand s) (option_to_list (block_got got)) (block_of l) lot.in_hand)
+
+pub served_lot : HandLaws → (s t : Account) (z n al : ℕ) (l : LotView) → Answers s z n al (Ok l) t → IsFreeable t l
+served_lot H s t z n al l a =
+    let adds = a.grows.adds in
+    let b = block_of l in
+    let hand_is = hand_then H s t a.mine _ adds ∙ H.served s.profile t.seen (request_of s.caller z n al) a.mine (Some b) (hand s) a.serves.served in
+    record { in_hand = ap (λ h. has_block h b) hand_is ∙ has_behind (hand s) (b ∷ []) b (or_left (same_block b b) false (is_same_block b)); space = a.answer.1 ∙ sym adds.same.site }
 
 abbrev pub DroppedLaw : Type 0
 DroppedLaw = (p : Profile) (h : List Entry) (b : Block) (es : List Entry) (bs : List Block) → IsDropped p h b es → hand_through bs es ≡ drop_block b bs
@@ -89,7 +94,7 @@ pub still_others : HandLaws → DroppedLaw → (s t : Account) (z : ℕ) (l m : 
 still_others H D s t z l m u f other lot =
     let adds = f.grows.adds in
     let hand_is = hand_then H s t f.mine _ adds ∙ D s.profile t.seen (block_of l) f.mine (hand s) f.freed.1 in
-    still s t f.mine _ m m adds lot refl refl (ap (λ h. has_block h (block_of m)) hand_is ∙ has_others (hand s) (block_of m) (block_of l) other lot.in_hand)
+    still s t f.mine _ m m adds lot refl (ap (λ h. has_block h (block_of m)) hand_is ∙ has_others (hand s) (block_of m) (block_of l) other lot.in_hand)
 
 -- A BLOCK OF ANOTHER SIZE
 one_event : (bs : List Block) (es : List Entry) (x : Event) → events es ≡ x ∷ [] → hand_through bs es ≡ hand_after bs x
@@ -109,13 +114,13 @@ changed p bs b c n es (still_large mine its stays none is) h = ap (λ x. has_blo
 pub unchanged : HandLaws → (s t : Account) (l m : LotView) (n : ℕ) → Resizes s l n false t m → (o : LotView) → IsFreeable s o → IsFreeable t o
 unchanged H s t l m n r o lot =
     let adds = r.grows.adds in
-    still s t r.mine _ o o adds lot refl refl (ap (λ h. has_block h (block_of o)) (hand_then H s t r.mine _ adds ∙ ap (hand_through (hand s)) r.in_place.0) ∙ lot.in_hand)
+    still s t r.mine _ o o adds lot refl (ap (λ h. has_block h (block_of o)) (hand_then H s t r.mine _ adds ∙ ap (hand_through (hand s)) r.in_place.0) ∙ lot.in_hand)
 
 pub still_resized : HandLaws → (s t : Account) (l m : LotView) (n : ℕ) (got : Bool) → Resizes s l n got t m → IsFreeable s l → IsFreeable t m
 still_resized H s t l m n true r lot =
     let adds = r.grows.adds in
     let is = r.in_place in
-    still s t r.mine _ l m adds lot is.1.zone is.1.space (ap (λ h. has_block h (block_of m)) (hand_then H s t r.mine _ adds) ∙ changed t.profile (hand s) (block_of l) (block_of m) n r.mine is.0 lot.in_hand)
+    still s t r.mine _ l m adds lot is.1.space (ap (λ h. has_block h (block_of m)) (hand_then H s t r.mine _ adds) ∙ changed t.profile (hand s) (block_of l) (block_of m) n r.mine is.0 lot.in_hand)
 still_resized H s t l m n false r lot = subst (λ x. IsFreeable t x) (sym r.in_place.1) (unchanged H s t l m n r l lot)
 
 -- requests can be made again

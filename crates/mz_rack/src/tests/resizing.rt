@@ -57,6 +57,7 @@ fn resize<R: Wait>(
     ensures others { IfOk result (λ r. r ≡ false → (o : LotView) → IsFreeable (⟦<PlainBook<Keeper> as Book<Keeper>>⟧.account book.old) o → IsFreeable (⟦<PlainBook<Keeper> as Book<Keeper>>⟧.account book.new) o) }
 {
     hands_after_an_event();
+    hands_after_requests();
     book.reserve(1)?;
     Ok(rack.resize(rt, book, lot, n))
 }

@@ -47,8 +47,8 @@ seek-requires g c =
       stands_p = kept.of_p;
     }
 
-pub fit-requires : goal.fit-requires
-fit-requires g c =
+pub fit-region-requires : goal.fit-region-requires
+fit-region-requires g c =
     let L = c.of_books.ensures in
     let s = g.B.Book.account c.args.book.now in
     let w = c.args.w.now in

@@ -22,5 +22,8 @@ mod PushingOut
 mod Dropping
 mod Flushing
 mod LargeLemmas
+mod LargeSteps
+mod LargeServing
+mod LargeAnswered
 mod Seeking
 mod TwoZones

@@ -5,9 +5,11 @@ use Rattle.mz_events.specs.Changes.{without_run}
 use Rattle.mz_book.specs.Account.{known}
 use Rattle.mz_large.specs.Large.{run_of_span}
 use Rattle.mz_rack.specs.Stages.{at_pages}
-use Rattle.mz_rack.proofs.Steps.{keeps_at, stands_then, below_test, itself, can_release, still_stands, same_number, less_differs, let_down}
+use Rattle.mz_rack.proofs.Steps.{keeps_at, stands_then, itself, can_release, still_stands, let_down}
+use Rattle.mz_rack.proofs.LargeLemmas.{as_run, was_noted}
+use Rattle.mz_rack.proofs.LargeSteps.{has_l, drop_l, has_p, drop_p, there_l}
 use Rattle.mz_rack.proofs.Answered.{MomentLaws}
-use Rattle.mz_rack.proofs.PushingOut.{as_run, was_noted, can_hold_pages, can_push, way_t, way_u, held_u, calm_l, calm_p, kept_l, kept_p, after, oldest_t, large_t, is_lacked, large_here, pages_here, has_pushed}
+use Rattle.mz_rack.proofs.PushingOut.{can_hold_pages, can_push, way_t, way_u, held_u, calm_l, calm_p, kept_l, kept_p, after, oldest_t, large_t, is_lacked, large_here, pages_here, has_pushed}
 use Rattle.mz_rack.proofs.free.push_out.Goals as goal
 
 pub hold-pages-requires : goal.hold-pages-requires
@@ -70,7 +72,7 @@ release-requires-clause-can g c =
     let n = was_noted t u w.zone i x c.first.result c.len.result c.first.ensures.value c.len.ensures.value c.note.ensures in
     let way = way_u L s w x o t h i u can n in
     let a = itself u _ (held_u L s w x o t h i u can n) in
-    can_release L u _ u a Pages w.p way.pages_is refl refl (rw (less_differs w.l w.p way.l_below, same_number w.p) refl) (calm_p L s w x o t h i u can n)
+    can_release L u _ u a Pages w.p way.pages_is refl refl (has_p L u.profile w way) (calm_p L s w x o t h i u can n)
 
 pub release-requires-clause-stands : goal.release-requires-clause-stands
 release-requires-clause-stands g c =
@@ -114,8 +116,8 @@ release-requires-2-clause-can g c =
     let way = way_u L s w x o t h i u can n in
     let a = itself u _ (held_u L s w x o t h i u can n) in
     let v = g.B.Book.account c.release.new.self in
-    let gone = let_down u _ u w.p _ (w.l ∷ []) a c.release.ensures (rw (less_differs w.l w.p way.l_below, same_number w.p) refl) in
-    can_release L u _ v gone (Large w.zone) w.l way.l refl (below_test w.zone u.profile.zones way.zone) (rw (same_number w.l) refl) (calm_l L s w x o t h i u can n)
+    let gone = let_down u _ u w.p _ (w.l ∷ []) a c.release.ensures (drop_p L u.profile w way) in
+    can_release L u _ v gone (Large w.zone) w.l way.l refl (there_l L u.profile w way) (has_l L u.profile w way) (calm_l L s w x o t h i u can n)
 
 pub release-requires-2-clause-stands : goal.release-requires-2-clause-stands
 release-requires-2-clause-stands g c =
@@ -136,9 +138,9 @@ release-requires-2-clause-stands g c =
     let way = way_u L s w x o t h i u can n in
     let a = itself u _ (held_u L s w x o t h i u can n) in
     let v = g.B.Book.account c.release.new.self in
-    let gone = let_down u _ u w.p _ (w.l ∷ []) a c.release.ensures (rw (less_differs w.l w.p way.l_below, same_number w.p) refl) in
+    let gone = let_down u _ u w.p _ (w.l ∷ []) a c.release.ensures (drop_p L u.profile w way) in
     let at_t = stands_then s t (Large w.zone) _ _ c.args.large since.grows.adds.same (ap (λ (y : Value). without_run (run_of_span x) y.kept) (large_t L s w x o t h)) c.requires.stands in
-    still_stands L u _ v gone (Large w.zone) w.l way.l refl (below_test w.zone u.profile.zones way.zone) c.args.large (stands_then t u (Large w.zone) _ _ c.args.large (after L s w x o t h i u can n).grows.adds.same (kept_l L s w x o t h i u can n) at_t)
+    still_stands L u _ v gone (Large w.zone) w.l way.l refl (there_l L u.profile w way) c.args.large (stands_then t u (Large w.zone) _ _ c.args.large (after L s w x o t h i u can n).grows.adds.same (kept_l L s w x o t h i u can n) at_t)
 
 pub returns : goal.returns
 returns g c =
@@ -159,7 +161,7 @@ returns g c =
     let way = way_u L s w x o t h i u can n in
     let a = itself u _ (held_u L s w x o t h i u can n) in
     let v = g.B.Book.account c.release.new.self in
-    let gone = let_down u _ u w.p _ (w.l ∷ []) a c.release.ensures (rw (less_differs w.l w.p way.l_below, same_number w.p) refl) in
+    let gone = let_down u _ u w.p _ (w.l ∷ []) a c.release.ensures (drop_p L u.profile w way) in
     let moments : MomentLaws = record { before = c.moments.ensures.before; after_one = c.states_split.ensures.one; after_joined = c.states_split.ensures.joined } in
     let y = g.B.Book.account c.release-2.new.self in
-    has_pushed L s w x o t h i u can n moments y (g.met.B.Book.orderly c.release-2.new.self).lawful (let_down u (w.l ∷ []) v w.l y [] gone c.release-2.ensures (rw (same_number w.l) refl))
+    has_pushed L s w x o t h i u can n moments y (g.met.B.Book.orderly c.release-2.new.self).lawful (let_down u (w.l ∷ []) v w.l y [] gone c.release-2.ensures (drop_l L u.profile w way))

@@ -5,5 +5,5 @@ use Rattle.mz_rack.specs.Serving.{CanServe}
 use Rattle.mz_rack.proofs.tests.large.the_seventeenth_cached_run_pushes_the_first_out.Given as goal
 
 -- the next request can be made
-abbrev pub invariant-loop : goal.invariant-loop
-invariant-loop g l = CanServe ((ghosts the_row keep.ghosts keep.dict).account l.book) l.rack.profile l.rack.zone 0
+abbrev pub invariant-loop-pages : goal.invariant-loop-pages
+invariant-loop-pages g l = CanServe ((ghosts the_row keep.ghosts keep.dict).account l.book) l.rack.profile l.rack.zone 0

@@ -1,5 +1,5 @@
 -- The oldest run of large, which is out, goes back to the free pages.
-use Rattle.std.proofs.Common.{◌≡◌, ℕ, ◌<◌, ◌≤◌, true, List, [], ◌∷◌, ◌++◌, refl, ap, sym, subst, ◌∙◌, inl, inr, ⊎_elim, None}
+use Rattle.std.proofs.Common.{◌≡◌, ℕ, ◌<◌, ◌≤◌, true, [], ◌∷◌, ◌++◌, refl, ap, sym, subst, ◌∙◌, inl, inr, ⊎_elim, None}
 use Rattle.std.proofs.lemmas.List.{append-nil}
 use Rattle.mz_base.specs.declared.profile.Profile.{Profile}
 use Rattle.mz_ground.specs.Views.{SpanView}

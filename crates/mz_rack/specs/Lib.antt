@@ -10,10 +10,10 @@ pub mod Serving
 pub mod Freeing
 pub mod Stages
 pub mod Ending
+pub mod LargeStages
 pub mod FreeStages
 pub mod BookLaws
 pub mod Runs
 pub mod Flushing
 pub mod Seeking
-pub mod LargeStages
 pub mod TwoZones

@@ -34,9 +34,6 @@ fn ask_and_free<R: Wait>(
         return Ok(false);
     };
     book.reserve(3)?;
-    if lot.size() > 32_768 {
-        return Ok(false);
-    }
     Ok(rack.free(rt, book, lot).is_ok())
 }
 

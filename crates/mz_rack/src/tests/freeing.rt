@@ -15,7 +15,7 @@ use std::test::Fail;
 
 // Caller 0 asks for `n` bytes, and frees the block at once. Requests can be made again then. It answers whether both were done.
 #[tactic(auto)]
-fn ask_and_free<R: Wait>(
+pub(super) fn ask_and_free<R: Wait>(
     rt: &R,
     rack: &Rack,
     book: &mut PlainBook<Keeper>,
@@ -23,7 +23,6 @@ fn ask_and_free<R: Wait>(
 ) -> Result<bool, AllocError>
     requires can { CanServe (⟦<PlainBook<Keeper> as Book<Keeper>>⟧.account book.old) rack.now.profile rack.now.zone 0 }
     requires caller { 0 < rack.now.profile.callers }
-    requires small { n ≤ 32768 }
     ensures { (z : ℕ) → CanServe (⟦<PlainBook<Keeper> as Book<Keeper>>⟧.account book.old) rack.now.profile z 0 → CanServe (⟦<PlainBook<Keeper> as Book<Keeper>>⟧.account book.new) rack.now.profile z 0 }
 {
     hands_after_an_event();

@@ -15,5 +15,4 @@ pub mod BookLaws
 pub mod Runs
 pub mod Flushing
 pub mod Seeking
-pub mod LargeStages
 pub mod TwoZones

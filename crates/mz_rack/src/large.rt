@@ -145,8 +145,8 @@ fn make_run<B: Book<Keeper>>(
     });
 }
 
-// Gives both keepers back.
-fn let_both_go<B: Book<Keeper>>(book: &mut B, w: &LargeWay, large: Keeper, pages: Keeper)
+/// Gives both keepers back.
+pub(crate) fn let_both_go<B: Book<Keeper>>(book: &mut B, w: &LargeWay, large: Keeper, pages: Keeper)
     requires way { IsLargeWay (B.account book.old).profile w.now }
     requires both { BothHeld (B.account book.old) w.now }
     requires stands_l { Keeps (B.account book.old) (place.Large w.now.zone) large }

@@ -15,7 +15,7 @@ use std::test::Fail;
 
 /// Caller 0 asks for `n` bytes, and frees the block at once. Requests can be made again then. Answers whether both were done.
 #[tactic(auto)]
-pub fn ask_and_free<R: Wait>(
+pub(super) fn ask_and_free<R: Wait>(
     rt: &R,
     rack: &Rack,
     book: &mut PlainBook<Keeper>,

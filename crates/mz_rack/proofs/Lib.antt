@@ -22,6 +22,9 @@ mod PushingOut
 mod Dropping
 mod Flushing
 mod LargeLemmas
+mod LargeSteps
+mod LargeServing
+mod LargeAnswered
 mod Seeking
 mod TwoZones
 mod Refitting

@@ -1,10 +1,7 @@
 -- The oldest run of large, which is out, goes back to the free pages.
-use Rattle.std.proofs.Common.{◌≡◌, ℕ, ◌/◌, ◌<◌, ◌≤◌, true, List, [], ◌∷◌, ◌++◌, length, refl, ap, sym, subst, ◌∙◌, inl, inr, ⊎_elim, None}
-use Rattle.std.specs.Prelude.{nat_lt}
-use Rattle.std.proofs.lemmas.Bool.{and_from}
+use Rattle.std.proofs.Common.{◌≡◌, ℕ, ◌<◌, ◌≤◌, true, [], ◌∷◌, ◌++◌, refl, ap, sym, subst, ◌∙◌, inl, inr, ⊎_elim, None}
 use Rattle.std.proofs.lemmas.List.{append-nil}
 use Rattle.mz_base.specs.declared.profile.Profile.{Profile}
-use Rattle.mz_base.specs.declared.range.TheConstants.{PAGE}
 use Rattle.mz_ground.specs.Views.{SpanView}
 use Rattle.mz_large.specs.Large.{run_of_span}
 use Rattle.mz_events.specs.declared.place.Place.{Place}
@@ -18,7 +15,7 @@ use Rattle.mz_events.specs.History.{AreLawful}
 use Rattle.mz_events.specs.Fitting.{IsAllowedAt, IsOwedAt}
 use Rattle.mz_events.specs.Leaving.{left_by}
 use Rattle.mz_record.specs.Moments.{duty_left, first_some}
-use Rattle.mz_book.specs.Keepers.{is_among, is_held}
+use Rattle.mz_book.specs.Keepers.{is_held}
 use Rattle.mz_book.specs.Account.{Account, state_of, known, holds_spot, entry_at}
 use Rattle.mz_book.specs.Calls.{CanHold, CanNote, Notes, Holds}
 use Rattle.mz_book.specs.Growth.{Grows, GrowsHolding}
@@ -28,19 +25,13 @@ use Rattle.mz_rack.specs.Flushing.{IsOldest, IsLackedRun}
 use Rattle.mz_rack.specs.Stages.{at_pages}
 use Rattle.mz_rack.specs.LargeStages.{IsLargeWay, large_spot}
 use Rattle.mz_rack.specs.FreeStages.{OwesRun, HasPushed}
-use Rattle.mz_rack.proofs.Steps.{same_number, same_spot_refl, two_spots, held_at, its_place, learn_touched, can_note, can_hold, below_test, less_differs, rest_grows}
+use Rattle.mz_rack.proofs.Steps.{same_spot_refl, two_spots, held_at, its_place, learn_touched, can_note, can_hold, rest_grows}
+use Rattle.mz_rack.proofs.LargeSteps.{one_l, two_l, two_p, above_p, there_l}
 use Rattle.mz_rack.proofs.Answered.{MomentLaws}
 use Rattle.mz_rack.proofs.Ended.{is_last, duty_then}
 
 abbrev pub back_of : ℕ → SpanView → Event
 back_of z x = Back (Large z) (run_of_span x).first (run_of_span x).pages
-
--- the event that is noted is that of the run
-pub as_run : (t : Account) (z : ℕ) (x : SpanView) (first len : ℕ) → first ≡ x.first → len ≡ length x.bytes → CanNote t (Back (Large z) (run_of_span x).first (run_of_span x).pages) → CanNote t (Back (Large z) (first / PAGE) (len / PAGE))
-as_run t z x first len begins long can = subst (λ a. CanNote t (Back (Large z) (a / PAGE) (len / PAGE))) (sym begins) (subst (λ n. CanNote t (Back (Large z) (x.first / PAGE) (n / PAGE))) (sym long) can)
-
-pub was_noted : (t u : Account) (z j : ℕ) (x : SpanView) (first len : ℕ) → first ≡ x.first → len ≡ length x.bytes → Notes t (Back (Large z) (first / PAGE) (len / PAGE)) j u → Notes t (Back (Large z) (run_of_span x).first (run_of_span x).pages) j u
-was_noted t u z j x first len begins long h = subst (λ n. Notes t (Back (Large z) (x.first / PAGE) (n / PAGE)) j u) long (subst (λ a. Notes t (Back (Large z) (a / PAGE) (len / PAGE)) j u) begins h)
 
 -- BACK: large of a zone and the pages are held, and the oldest run is owed
 module _ (L : BookLaws) (t : Account) (z : ℕ) (x : SpanView) (old : IsOldest t.site (known t (spot_of (Large z))).kept x) (here_l : holds_spot t (spot_of (Large z)) ≡ true) (here_p : holds_spot t at_pages ≡ true) where
@@ -78,27 +69,10 @@ module _ (L : BookLaws) (t : Account) (z : ℕ) (x : SpanView) (old : IsOldest t
         below = separate.below_nano (spot_of (Large z)) (run_of_span x) old.there;
       }
 
--- the keepers of large and the pages
-module _ (L : BookLaws) (p : Profile) (w : LargeWay) (way : IsLargeWay p w) where
-  abbrev large_held : List ℕ
-  large_held = w.l ∷ []
-
-  abbrev both_held : List ℕ
-  both_held = w.l ∷ w.p ∷ []
-
-  pub one_l : is_held p large_held (large_spot w) ≡ true
-  one_l = L.held p large_held (Large w.zone) refl ∙ (ap (λ x. is_among large_held x) (sym way.l) ∙ rw (same_number w.l) refl)
-
-  pub both_l : is_held p both_held (large_spot w) ≡ true
-  both_l = L.held p both_held (Large w.zone) refl ∙ (ap (λ x. is_among both_held x) (sym way.l) ∙ rw (same_number w.l) refl)
-
-  pub both_p : is_held p both_held at_pages ≡ true
-  both_p = L.held p both_held Pages refl ∙ (ap (λ x. is_among both_held x) (sym way.pages_is) ∙ rw (less_differs w.l w.p way.l_below, same_number w.p) refl)
-
 -- PUSHED OUT
 module _ (L : BookLaws) (s : Account) (w : LargeWay) (x : SpanView) (o : OwesRun s w x) where
   pub can_hold_pages : CanHold s w.p
-  can_hold_pages = can_hold s w.p (w.l ∷ []) o.held o.way.p_below (and_from (nat_lt w.l w.p) true (below_test w.l w.p o.way.l_below) refl)
+  can_hold_pages = can_hold s w.p (w.l ∷ []) o.held o.way.p_below (above_p L s.profile w o.way)
 
   here_l : holds_spot s (large_spot w) ≡ true
   here_l = ap (λ h. is_held s.profile h (large_spot w)) o.held ∙ one_l L s.profile w o.way
@@ -121,16 +95,16 @@ module _ (L : BookLaws) (s : Account) (w : LargeWay) (x : SpanView) (o : OwesRun
     calm_t = ap (λ (q : Place). (known t (spot_of q)).duty) (sym (its_place L s Pages w.p o.way.pages_is refl refl)) ∙ h.calm
 
     pub large_here : holds_spot t (large_spot w) ≡ true
-    large_here = ap (λ y. is_held t.profile y (large_spot w)) held_t ∙ both_l L t.profile w way_t
+    large_here = ap (λ y. is_held t.profile y (large_spot w)) held_t ∙ two_l L t.profile w way_t
 
     pub pages_here : holds_spot t at_pages ≡ true
-    pages_here = ap (λ y. is_held t.profile y at_pages) held_t ∙ both_p L t.profile w way_t
+    pages_here = ap (λ y. is_held t.profile y at_pages) held_t ∙ two_p L t.profile w way_t
 
     pub oldest_t : IsOldest t.site (known t (large_spot w)).kept x
     oldest_t = subst (λ y. IsOldest y (known t (large_spot w)).kept x) (sym since.grows.adds.same.site) (subst (λ (v : Value). IsOldest s.site v.kept x) (sym large_t) o.oldest)
 
     pub can_push : t.caller < t.profile.callers → 1 ≤ t.spare → CanNote t (back_of w.zone x)
-    can_push c room = can_go_back L t w.zone x oldest_t large_here pages_here c room (below_test w.zone t.profile.zones way_t.zone) (ap (λ (v : Value). v.duty) large_t ∙ o.duty) (inl calm_t)
+    can_push c room = can_go_back L t w.zone x oldest_t large_here pages_here c room (there_l L t.profile w way_t) (ap (λ (v : Value). v.duty) large_t ∙ o.duty) (inl calm_t)
 
     module _ (i : ℕ) (u : Account) (can : CanNote t (back_of w.zone x)) (n : Notes t (back_of w.zone x) i u) where
       pub after : GrowsHolding t (entry_at i t.caller (back_of w.zone x) ∷ []) 0 u

@@ -10,9 +10,9 @@ pub mod Serving
 pub mod Freeing
 pub mod Stages
 pub mod Ending
-pub mod LargeStages
 pub mod FreeStages
 pub mod BookLaws
+pub mod Runs
 pub mod Flushing
 pub mod Seeking
 pub mod TwoZones

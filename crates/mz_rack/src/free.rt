@@ -18,6 +18,7 @@ ghost use Rattle.mz_rack.specs.FreeStages.{LivesIn, IsHome, HasHome, block_in, H
 
 use crate::home::Home;
 use crate::keeper::Keeper;
+use crate::large::let_both_go;
 use crate::laws::of_books;
 use crate::lot::Lot;
 use crate::way::{LargeWay, Way};
@@ -136,8 +137,7 @@ fn push_out<B: Book<Keeper>, R: Wait>(rt: &R, book: &mut B, w: &LargeWay, large:
         pages: run.len() / PAGE,
     });
     pages.put_run_back(run);
-    book.release(w.p, pages);
-    book.release(w.l, large);
+    let_both_go(book, w, large, pages);
 }
 
 // Ends a block of the place. Large hands out the run that it owes.

@@ -5,7 +5,7 @@ ghost use Rattle.mz_rack.specs.Lots.{LotView};
 ghost use Rattle.mz_rack.specs.Serving.{CanServe};
 ghost use Rattle.mz_rack.specs.Freeing.{IsFreeable};
 
-use super::{SMALL, TINY, TINY_DEPOT, ask_often, same_events, setting};
+use super::{LARGE, SMALL, TINY, TINY_DEPOT, ask_often, same_events, setting};
 use crate::{Keeper, Lot, Rack};
 use mz_book::laws::hands::hands_after_an_event;
 use mz_book::{Book, PlainBook};
@@ -23,7 +23,6 @@ fn take<R: Wait>(
     n: u64,
 ) -> Result<Lot, Fail>
     requires can { CanServe (⟦<PlainBook<Keeper> as Book<Keeper>>⟧.account book.old) rack.now.profile rack.now.zone 0 }
-    requires small { n ≤ 32768 }
     ensures can { IfOk result (λ l. CanServe (⟦<PlainBook<Keeper> as Book<Keeper>>⟧.account book.new) rack.now.profile rack.now.zone 0) }
     ensures lot { IfOk result (λ l. IsFreeable (⟦<PlainBook<Keeper> as Book<Keeper>>⟧.account book.new) l) }
     ensures zone { IfOk result (λ l. l.zone ≡ rack.now.zone) }
@@ -80,13 +79,13 @@ fn free<R: Wait>(
     hands_after_an_event();
     hands_after_requests();
     book.reserve(3)?;
-    if lot.size() > 32_768 || lot.first() == other.first() {
-        return Err(Fail::new("another small block"));
+    if lot.first() == other.first() {
+        return Err(Fail::new("it is another block"));
     }
-    match rack.free(rt, book, lot) {
-        Ok(()) => Ok(()),
-        Err(_) => Err(Fail::new("the zone has it")),
-    }
+    let Ok(()) = rack.free(rt, book, lot) else {
+        return Err(Fail::new("the zone has it"));
+    };
+    Ok(())
 }
 
 const AROUND_A_BLOCK: [Event; 10] = [
@@ -215,5 +214,43 @@ fn a_block_grows_up_to_the_end_of_its_region(rt: HostRuntime) -> Result<(), Fail
     let shrinks = resize(&rt, &rack, &mut book, &mut last, 1_025)?;
     assert!(rt; shrinks);
     assert!(rt; same_events(book.history(), 259, AT_THE_END.as_slice()));
+    Ok(())
+}
+
+const EIGHT_PAGES: [Event; 3] = [
+    Event::Full {
+        k: LARGE,
+        n: 8,
+        al: 1,
+    },
+    Event::Take {
+        k: LARGE,
+        first: 0,
+        pages: 8,
+    },
+    Event::New {
+        k: LARGE,
+        a: 0,
+        s: 131_072,
+        al: 16,
+    },
+];
+
+#[tactic(auto)]
+#[test]
+fn a_large_block_stays_where_it_wastes_less_than_it_needs(rt: HostRuntime) -> Result<(), Fail> {
+    let (mut book, rack) = setting(rt.alloc(), 64, 0)?;
+    let mut a = take(&rt, &rack, &mut book, 131_072)?;
+    let by_one = resize(&rt, &rack, &mut book, &mut a, 114_688)?;
+    let by_three = resize(&rt, &rack, &mut book, &mut a, 65_537)?;
+    assert!(rt; by_one && by_three);
+    let by_half = resize(&rt, &rack, &mut book, &mut a, 65_536)?;
+    let by_more = resize(&rt, &rack, &mut book, &mut a, 49_152)?;
+    assert!(rt; !by_half && !by_more);
+    let to_small = resize(&rt, &rack, &mut book, &mut a, 32_768)?;
+    let grows = resize(&rt, &rack, &mut book, &mut a, 131_073)?;
+    assert!(rt; !to_small && !grows);
+    assert_eq!(rt; (a.first(), a.size()), (0, 131_072));
+    assert!(rt; same_events(book.history(), 0, EIGHT_PAGES.as_slice()));
     Ok(())
 }

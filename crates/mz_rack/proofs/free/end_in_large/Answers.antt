@@ -5,7 +5,8 @@ use Rattle.mz_book.specs.Account.{known}
 use Rattle.mz_rack.specs.Flushing.{PushedOut}
 use Rattle.mz_rack.specs.LargeStages.{large_spot}
 use Rattle.mz_rack.specs.FreeStages.{block_in}
-use Rattle.mz_rack.proofs.Steps.{below_test, itself, can_release, still_stands, same_number, let_down}
+use Rattle.mz_rack.proofs.Steps.{itself, can_release, still_stands, let_down}
+use Rattle.mz_rack.proofs.LargeSteps.{has_l, drop_l, there_l}
 use Rattle.mz_rack.proofs.Answered.{MomentLaws}
 use Rattle.mz_rack.proofs.Dropping.{none_owed, way_large, held_large, owes_run, over_at_once, over_pushed}
 use Rattle.mz_rack.proofs.free.end_in_large.Goals as goal
@@ -79,7 +80,7 @@ release-requires-clause-can g c =
     let calm = none_owed L s u w b c.requires.way c.requires.lives x (out.0 refl) in
     let way = way_large L s u w b c.requires.way c.requires.lives x in
     let a = itself u _ (held_large L s u w b c.requires.way c.requires.lives x) in
-    can_release L u _ u a (Large w.zone) w.l way.l refl (below_test w.zone u.profile.zones way.zone) (rw (same_number w.l) refl) calm
+    can_release L u _ u a (Large w.zone) w.l way.l refl (there_l L u.profile w way) (has_l L u.profile w way) calm
 
 pub release-requires-clause-stands : goal.release-requires-clause-stands
 release-requires-clause-stands g c =
@@ -95,7 +96,7 @@ release-requires-clause-stands g c =
     let calm = none_owed L s u w b c.requires.way c.requires.lives x (out.0 refl) in
     let way = way_large L s u w b c.requires.way c.requires.lives x in
     let a = itself u _ (held_large L s u w b c.requires.way c.requires.lives x) in
-    still_stands L u _ u a (Large w.zone) w.l way.l refl (below_test w.zone u.profile.zones way.zone) c.end_in.new.keeper out.1
+    still_stands L u _ u a (Large w.zone) w.l way.l refl (there_l L u.profile w way) c.end_in.new.keeper out.1
 
 pub returns-in-None : goal.returns-in-None
 returns-in-None g c =
@@ -112,4 +113,4 @@ returns-in-None g c =
     let way = way_large L s u w b c.requires.way c.requires.lives x in
     let a = itself u _ (held_large L s u w b c.requires.way c.requires.lives x) in
     let moments : MomentLaws = record { before = c.moments.ensures.before; after_one = c.states_split.ensures.one; after_joined = c.states_split.ensures.joined } in
-    over_at_once L s u (Large w.zone) b c.requires.lives x moments (g.B.Book.account c.release.new.self) (g.met.B.Book.orderly c.release.new.self).lawful calm (let_down u _ u w.l _ _ a c.release.ensures (rw (same_number w.l) refl))
+    over_at_once L s u (Large w.zone) b c.requires.lives x moments (g.B.Book.account c.release.new.self) (g.met.B.Book.orderly c.release.new.self).lawful calm (let_down u _ u w.l _ _ a c.release.ensures (drop_l L u.profile w way))

@@ -10,6 +10,7 @@ pub mod Serving
 pub mod Freeing
 pub mod Stages
 pub mod Ending
+pub mod LargeStages
 pub mod FreeStages
 pub mod BookLaws
 pub mod Runs

@@ -3,7 +3,7 @@ use Rattle.std.proofs.Common.{◌≡◌, ℕ, zero, suc, ◌+◌, ◌≤◌, tru
 use Rattle.std.specs.Prelude.{◌⊎◌, ◌&&◌, not, Result, Ok, Err, slice_get, if◌then◌else◌}
 use Rattle.std.specs.List.{All, Contains, list_all}
 use Rattle.std.proofs.lemmas.Bool.{false≢true, and_from}
-use Rattle.std.proofs.lemmas.List.Elements.{All-nil, All-cons, All-head, All-tail, All-append, All-weaker, All-contains, Contains-append_cases}
+use Rattle.std.proofs.lemmas.List.Elements.{All-nil, All-cons, All-head, All-tail, All-append, All-weaker, All-contains}
 use Rattle.std.proofs.lemmas.List.{map-append, length-map}
 use Rattle.std.proofs.lemmas.List.Folds.{list_all-map}
 use Rattle.mz_base.specs.declared.profile.Profile.{Profile}
@@ -15,14 +15,14 @@ use Rattle.mz_events.specs.declared.place.Place.TheVariants.{Tiny, Small, Large}
 use Rattle.mz_events.specs.declared.event.Event.{Event}
 use Rattle.mz_events.specs.declared.event.Event.TheVariants.{Take, Move, New, Full, Dry}
 use Rattle.mz_events.specs.declared.entry.Entry.{Entry}
-use Rattle.mz_events.specs.Places.{is_magazine, is_nano, depot_of, keeper_at, nano_page, same_spot, spot_of, spot_at}
+use Rattle.mz_events.specs.Places.{is_magazine, is_nano, depot_of, nano_page, same_spot, spot_of, spot_at}
 use Rattle.mz_events.specs.State.{State, opening, value_at}
 use Rattle.mz_events.specs.Effect.{touches}
 use Rattle.mz_events.specs.History.{AreLawful, after_entry, after_all}
 use Rattle.mz_record.specs.Moments.{state_before, duty_left, first_some}
-use Rattle.mz_record.specs.Served.{Request, Regional, events, AreFlushes, IsUndisturbed}
+use Rattle.mz_record.specs.Served.{Request, Regional, events, AreFlushes}
 use Rattle.mz_record.specs.Served.{IsServed as RecordServed, by_magazine as record_by_magazine, by_depot as record_by_depot, by_fresh_region as record_by_fresh_region, null_in_range as record_null_in_range}
-use Rattle.mz_book.specs.Account.{Account, state_of, known, HoldsNothing, holds_spot, entry_at}
+use Rattle.mz_book.specs.Account.{Account, state_of, known, HoldsNothing, entry_at}
 use Rattle.mz_book.specs.Calls.{is_at_nano}
 use Rattle.mz_book.specs.Growth.{Grows}
 use Rattle.mz_rack.specs.declared.lot.Null.{Null}

@@ -8,10 +8,9 @@ use Rattle.mz_base.specs.declared.profile.Profile.{Profile}
 use Rattle.mz_ground.specs.Views.{SpanView}
 use Rattle.mz_large.specs.Large.{run_of_span}
 use Rattle.mz_events.specs.declared.place.Place.TheVariants.{Large}
-use Rattle.mz_events.specs.declared.event.Event.{Event}
 use Rattle.mz_events.specs.declared.event.Event.TheVariants.{Back, Dry}
 use Rattle.mz_events.specs.declared.entry.Entry.{Entry}
-use Rattle.mz_events.specs.Places.{nano_start, Spot, spot_of}
+use Rattle.mz_events.specs.Places.{nano_start, spot_of}
 use Rattle.mz_events.specs.State.{Kept, Value, is_open, opening}
 use Rattle.mz_events.specs.History.{AreLawful}
 use Rattle.mz_events.specs.Duties.{back_of_oldest, is_that}

@@ -1,8 +1,8 @@
 -- A request for large is served by a cached run, or by a fresh one, or by none.
-use Rattle.std.proofs.Common.{◌≡◌, ℕ, ◌+◌, ◌*◌, ◌/◌, ◌%◌, ◌<◌, ◌≤◌, ◌==◌, true, false, List, [], ◌∷◌, ◌++◌, length, sum_by, refl, ap, sym, subst, ◌∙◌, arith, inl, inr, ⊎_elim, Some, None}
-use Rattle.std.specs.Prelude.{◌&&◌, ◌||◌, nat_lt, nat_le, Result, Ok, Err}
+use Rattle.std.proofs.Common.{◌≡◌, ℕ, ◌+◌, ◌*◌, ◌<◌, ◌≤◌, true, false, List, [], ◌∷◌, ◌++◌, length, sum_by, refl, ap, sym, subst, ◌∙◌, arith, inl, inr, None}
+use Rattle.std.specs.Prelude.{◌||◌, nat_lt, Result, Ok, Err}
 use Rattle.std.specs.List.{list_all}
-use Rattle.std.proofs.lemmas.Bool.{false≢true, and_parts, and_from, or_parts, or_right, cases_Bool, leb-true, le-leb, lt-ltb}
+use Rattle.std.proofs.lemmas.Bool.{false≢true, or_parts, or_right, cases_Bool, leb-true, le-leb}
 use Rattle.std.proofs.lemmas.List.{append-nil}
 use Rattle.std.proofs.lemmas.List.Sums.{sum_by-cons}
 use Rattle.mz_base.specs.declared.range.TheConstants.{PAGE}
@@ -10,11 +10,10 @@ use Rattle.mz_base.specs.Space.{Block, Run, run_at, blocks_apart, runs_apart, by
 use Rattle.mz_base.specs.Lists.{add_run, has_run}
 use Rattle.mz_base.specs.Room.{is_lowest_free}
 use Rattle.mz_ground.specs.Views.{SpanView}
-use Rattle.mz_large.specs.Blocks.{IsPaged}
 use Rattle.mz_large.specs.Large.{block_of, run_of_span}
 use Rattle.mz_events.specs.declared.place.Place.{Place}
 use Rattle.mz_events.specs.declared.place.Place.TheVariants.{Pages, Large}
-use Rattle.mz_events.specs.declared.event.Event.TheVariants.{Take, New, Full, Dry}
+use Rattle.mz_events.specs.declared.event.Event.TheVariants.{Take, New, Full}
 use Rattle.mz_events.specs.declared.entry.Entry.{Entry}
 use Rattle.mz_events.specs.Places.{nano_start, Spot, same_spot, spot_of}
 use Rattle.mz_events.specs.State.{Kept, Value, opening}
@@ -23,7 +22,7 @@ use Rattle.mz_events.specs.Locality.{reads}
 use Rattle.mz_events.specs.Changes.{with_block, with_run, pages_without}
 use Rattle.mz_events.specs.History.{AreLawful}
 use Rattle.mz_events.specs.Leaving.{left_by}
-use Rattle.mz_events.specs.Standing.{Keeping, Stands}
+use Rattle.mz_events.specs.Standing.{Keeping}
 use Rattle.mz_record.specs.Served.{AreFlushes}
 use Rattle.mz_book.specs.Keepers.{is_held}
 use Rattle.mz_book.specs.Account.{Account, state_of, known, holds_spot, entry_at}
@@ -36,8 +35,8 @@ use Rattle.mz_rack.specs.BookLaws.{BookLaws}
 use Rattle.mz_rack.specs.Runs.{out_of_pages, IsFoundRun, MayEnter}
 use Rattle.mz_rack.specs.Stages.{at_pages, Keeps, LetsGo, IsDried, AreFlushed}
 use Rattle.mz_rack.specs.Seeking.{CanSeek, cached_in, Sought, dry_at}
-use Rattle.mz_rack.specs.LargeStages.{IsLargeWay, large_spot, CanAskLarge, WasBest, TriedCache, NoneFits, SeeksRun, IsFreshRun, IsServedLarge, by_cache, by_fresh_run, null_in_large, ServedLarge}
-use Rattle.mz_rack.proofs.Steps.{or_elim, same_spot_refl, apart_back, held_at, its_place, learn_touched, learn_other, can_note, stands_then, rest_grows}
+use Rattle.mz_rack.specs.LargeStages.{large_spot, CanAskLarge, WasBest, TriedCache, NoneFits, SeeksRun, IsFreshRun, IsServedLarge, by_cache, by_fresh_run, null_in_large, ServedLarge}
+use Rattle.mz_rack.proofs.Steps.{or_elim, same_spot_refl, held_at, its_place, learn_touched, can_note, rest_grows}
 use Rattle.mz_rack.proofs.Listed.{is_same_run}
 use Rattle.mz_rack.proofs.RoomLemmas.{any_inserted, insert_nil, insert_here, insert_later}
 use Rattle.mz_rack.proofs.Tidying.{free_apart, live_apart}

@@ -1,4 +1,3 @@
-use Rattle.std.proofs.Common.{ap, arith}
 use Rattle.mz_book.specs.Account.{known}
 use Rattle.mz_rack.specs.Stages.{at_pages}
 use Rattle.mz_rack.proofs.Seeking.{may_seek, found, found_none, found_then}

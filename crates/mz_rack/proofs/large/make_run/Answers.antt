@@ -1,11 +1,8 @@
-use Rattle.std.proofs.Common.{◌≡◌, ℕ, ◌/◌, length, sym, subst, arith}
+use Rattle.std.proofs.Common.{◌/◌, sym, subst, arith}
 use Rattle.mz_base.specs.declared.range.TheConstants.{PAGE}
-use Rattle.mz_ground.specs.Views.{SpanView}
-use Rattle.mz_large.specs.Large.{block_of, run_of_span}
 use Rattle.mz_events.specs.declared.place.Place.TheVariants.{Large}
 use Rattle.mz_events.specs.declared.event.Event.TheVariants.{Take}
-use Rattle.mz_events.specs.Changes.{with_block, with_run}
-use Rattle.mz_book.specs.Account.{Account, known}
+use Rattle.mz_book.specs.Account.{known}
 use Rattle.mz_book.specs.Calls.{CanNote, Notes}
 use Rattle.mz_rack.specs.LargeStages.{large_spot}
 use Rattle.mz_rack.proofs.Steps.{stands_then}

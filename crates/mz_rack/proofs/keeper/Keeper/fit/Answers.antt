@@ -1,8 +1,7 @@
-use Rattle.std.proofs.Common.{◌≡◌, ℕ, ◌+◌, ◌/◌, vec_len, length, ap, sym, subst, ◌∙◌, arith}
+use Rattle.std.proofs.Common.{◌≡◌, ℕ, ◌+◌, ◌/◌, vec_len, length, ap, sym, ◌∙◌, arith}
 use Rattle.mz_base.specs.declared.range.TheConstants.{PAGE}
 use Rattle.mz_base.specs.Space.{run_at}
 use Rattle.mz_events.specs.declared.place.Place.TheVariants.{Pages}
-use Rattle.mz_events.specs.Places.{is_length_of}
 use Rattle.mz_events.specs.Changes.{one_for}
 use Rattle.mz_rack.proofs.StockLemmas.{of_stock, stock_of, with_one_fewer, tiny_place, small_place}
 use Rattle.mz_rack.proofs.keeper.Keeper.fit.Goals as goal

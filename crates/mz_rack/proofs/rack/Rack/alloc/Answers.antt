@@ -1,4 +1,4 @@
-use Rattle.std.proofs.Common.{◌≡◌, ℕ, ◌*◌, [], ap, sym, subst, ◌∙◌, rules, Ok, Err}
+use Rattle.std.proofs.Common.{◌≡◌, ℕ, ◌*◌, [], ap, sym, subst, ◌∙◌, rules, Ok}
 use Rattle.std.specs.Prelude.{Result}
 use Rattle.mz_base.specs.declared.profile.Profile.{Profile}
 use Rattle.mz_base.specs.declared.range.Range.TheVariants as range

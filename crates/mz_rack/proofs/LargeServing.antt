@@ -40,6 +40,7 @@ use Rattle.mz_rack.proofs.Steps.{or_elim, same_spot_refl, held_at, its_place, le
 use Rattle.mz_rack.proofs.Listed.{is_same_run}
 use Rattle.mz_rack.proofs.RoomLemmas.{any_inserted, insert_nil, insert_here, insert_later}
 use Rattle.mz_rack.proofs.Tidying.{free_apart, live_apart}
+use Rattle.mz_rack.proofs.Seeking.{flushed_later}
 use Rattle.mz_rack.proofs.LargeSteps.{HeldLarge, ask_same, stands_large, one_l, two_l, two_p, can_make, is_made, on_free_run}
 
 -- BY THE CACHE
@@ -278,9 +279,6 @@ module _ (L : BookLaws) (w : LargeWay) (n al : ℕ) (t : Account) (k : SeeksRun 
 
 -- and that serves the request
 module _ (L : BookLaws) (w : LargeWay) (n al : ℕ) where
-  flushes_then : (u v y : Account) (got : Result SpanView ℕ) (more : List Entry) → (q : Sought u w.zone n 1 got v) → length q.flushes ≤ 32 → AreLawful y.profile opening y.seen → y.profile ≡ v.profile → y.seen ≡ v.seen ++ more → AreFlushed y w.zone n 1 q.flushes
-  flushes_then u v y got more q few lawful same seen = record { are = subst (λ p. AreFlushes p y.seen w.zone n 1 q.flushes) (sym same) (q.are y.seen more (subst (λ p. AreLawful p opening y.seen) same lawful) seen); each = q.each; few = few }
-
   pub served_by_run : (s u v x y : Account) (m : ℕ) (b : SpanView) → HeldPages s w n al u → (q : Sought u w.zone n 1 (Ok b) v) → length q.flushes ≤ 32 → IsFreshRun v w n al b x → LetsGo x y → AreLawful y.profile opening y.seen
       → ServedLarge (entry_at m s.caller (Full (Large w.zone) n 1) ∷ []) 1 s w n al (Ok b) y
   served_by_run s u v x y m b h q few f go lawful =
@@ -306,7 +304,7 @@ module _ (L : BookLaws) (w : LargeWay) (n al : ℕ) where
         grows = rest_grows L s (q.flushes ++ entry_at f.i s.caller take ∷ entry_at f.j s.caller (New (Large w.zone) (r.first * PAGE) (n * PAGE) al) ∷ []) 1 x [] y mine go.after;
         nothing_held = ap (λ (a : Account). a.held) go.after;
         served = by_fresh_run b r.first m f.i f.j q.flushes refl
-            (flushes_then u v y (Ok b) more q few lawful (ap (λ (a : Account). a.profile) go.after ∙ f.since.grows.adds.same.profile) (ap (λ (a : Account). a.seen) go.after ∙ f.since.grows.adds.seen))
+            (flushed_later u v y w.zone n 1 (Ok b) more q few lawful (ap (λ (a : Account). a.profile) go.after ∙ f.since.grows.adds.same.profile) (ap (λ (a : Account). a.seen) go.after ∙ f.since.grows.adds.seen))
             (ap (λ z. record { first = z; size = length b.bytes }) first ∙ ap (λ z. record { first = r.first * PAGE; size = z }) size) refl refl;
         is = found.space ∙ sym (ap (λ (a : Account). a.site) go.after ∙ f.since.grows.adds.same.site);
       }
@@ -323,7 +321,7 @@ module _ (L : BookLaws) (w : LargeWay) (n al : ℕ) where
         grows = rest_grows L s (q.flushes ++ dry_at i s.caller w.zone n 1 ∷ []) 1 v [] y mine go.after;
         nothing_held = ap (λ (a : Account). a.held) go.after;
         served = null_in_large m i q.flushes refl
-            (flushes_then u v y (Err i) [] q few lawful (ap (λ (a : Account). a.profile) go.after) (ap (λ (a : Account). a.seen) go.after ∙ sym (append-nil v.seen))) refl refl;
+            (flushed_later u v y w.zone n 1 (Err i) [] q few lawful (ap (λ (a : Account). a.profile) go.after) (ap (λ (a : Account). a.seen) go.after ∙ sym (append-nil v.seen))) refl refl;
         is = subst (λ (a : Account). IsDried a w.zone n 1 i) (sym go.after) (record {
           before = q.is.before;
           seen = q.is.seen;

@@ -1,5 +1,5 @@
 -- The pages are searched, with as many flushes as it takes.
-use Rattle.std.proofs.Common.{ℕ, [], ◌∷◌, ◌++◌, refl, ap, sym, subst, ◌∙◌, arith, inl, inr}
+use Rattle.std.proofs.Common.{◌≡◌, ℕ, ◌*◌, ◌≤◌, List, [], ◌∷◌, ◌++◌, length, length-append, None, refl, ap, sym, subst, ◌∙◌, arith, inl, inr}
 use Rattle.std.specs.Prelude.{Result, Ok, Err}
 use Rattle.std.proofs.lemmas.List.{append_assoc}
 use Rattle.std.proofs.lemmas.List.Elements.{All-nil, All-cons}
@@ -8,6 +8,7 @@ use Rattle.mz_ground.specs.Views.{SpanView}
 use Rattle.mz_events.specs.declared.place.Place.TheVariants.{Pages, Large}
 use Rattle.mz_events.specs.declared.event.Event.TheVariants.{Back}
 use Rattle.mz_events.specs.declared.entry.Entry.{Entry}
+use Rattle.mz_events.specs.Places.{spot_of}
 use Rattle.mz_events.specs.State.{opening}
 use Rattle.mz_events.specs.History.{AreLawful}
 use Rattle.mz_events.specs.Standing.{Keeping}
@@ -16,8 +17,9 @@ use Rattle.mz_book.specs.Account.{Account, known, entry_at}
 use Rattle.mz_book.specs.Growth.{GrowsHolding}
 use Rattle.mz_rack.specs.BookLaws.{BookLaws}
 use Rattle.mz_rack.specs.Runs.{MaySeekRun, IsFoundRun}
-use Rattle.mz_rack.specs.Stages.{at_pages, Keeps, IsFlush}
-use Rattle.mz_rack.specs.Seeking.{CanSeek, IsFlushed, IsEmpty, Sought, dry_at, last_dry}
+use Rattle.mz_record.specs.Served.{AreFlushes}
+use Rattle.mz_rack.specs.Stages.{at_pages, Keeps, IsFlush, AreFlushed}
+use Rattle.mz_rack.specs.Seeking.{CanSeek, cached_in, IsFlushed, IsEmpty, Sought, dry_at, last_dry}
 use Rattle.mz_rack.proofs.Steps.{held_still}
 
 module _ (L : BookLaws) (z w al : ℕ) (s : Account) (k : CanSeek s z w al) where
@@ -90,3 +92,20 @@ module _ (L : BookLaws) (z w al : ℕ) (s : Account) (k : CanSeek s z w al) wher
         );
         is = y.is;
       }
+
+-- FLUSHES are few: each took a cached run
+pub few_flushed : BookLaws → (u v : Account) (z y al : ℕ) (got : Result SpanView ℕ) → AreLawful u.profile opening u.seen → (known u (spot_of (Large z))).duty ≡ None → (q : Sought u z y al got v) → length q.flushes ≤ 32
+few_flushed L u v z y al got lawful calm q =
+    let few = q.few in
+    let cached : length (cached_in u z) ≤ 16 = L.few_cached u.profile u.seen z lawful calm in
+    let all = ap length q.cached ∙ length-append q.flushed (cached_in v z) in
+    omega (arith, few, cached, all)
+
+-- and they are the flushes of the history that has gone on
+pub flushed_later : (u v y : Account) (z w al : ℕ) (got : Result SpanView ℕ) (more : List Entry) → (q : Sought u z w al got v) → length q.flushes ≤ 32 → AreLawful y.profile opening y.seen → y.profile ≡ v.profile → y.seen ≡ v.seen ++ more
+    → AreFlushed y z w al q.flushes
+flushed_later u v y z w al got more q few lawful same seen = record {
+  are = subst (λ p. AreFlushes p y.seen z w al q.flushes) (sym same) (q.are y.seen more (subst (λ p. AreLawful p opening y.seen) same lawful) seen);
+  each = q.each;
+  few = few;
+}

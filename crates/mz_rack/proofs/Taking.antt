@@ -43,6 +43,7 @@ use Rattle.mz_rack.proofs.Steps.{test_below, keeps_at, same_spot_refl, apart_bac
 use Rattle.mz_rack.proofs.RoomLemmas.{room_of_region, room_of_fresh}
 use Rattle.mz_rack.proofs.Trying.{power_some, size_some}
 use Rattle.mz_rack.proofs.Moving.{deed_at, found_full}
+use Rattle.mz_rack.proofs.Seeking.{flushed_later}
 use Rattle.mz_rack.proofs.Tidying.{tidy_of, free_apart, live_apart}
 
 pub some_pages : (q : Place) (w : ℕ) → is_magazine q ≡ true → is_length_of q w ≡ true → 1 ≤ w
@@ -263,14 +264,6 @@ module _ (L : BookLaws) (w : Way) (n al : ℕ) (t : Account) (k : Seeks t w n al
           size = z.is.1;
         }
 
--- each flush took a cached run
-pub few_flushed : BookLaws → (u v : Account) (z y al : ℕ) (got : Result SpanView ℕ) → AreLawful u.profile opening u.seen → (known u (spot_of (Large z))).duty ≡ None → (q : Sought u z y al got v) → length q.flushes ≤ 32
-few_flushed L u v z y al got lawful calm q =
-    let few = q.few in
-    let cached : length (cached_in u z) ≤ 16 = L.few_cached u.profile u.seen z lawful calm in
-    let all = ap length q.cached ∙ length-append q.flushed (cached_in v z) in
-    omega (arith, few, cached, all)
-
 -- and that serves the request
 
 module _ (L : BookLaws) (w : Way) (n al : ℕ) where
@@ -348,10 +341,6 @@ module _ (L : BookLaws) (w : Way) (n al : ℕ) where
         left = subst (λ (t : Run). Stands pages v.site v.profile Pages (pages_without w.magazine t (known v at_pages).kept)) (sym fitted.run) fits.1;
       }
 
-  -- the flushes are those of the history that has gone on
-  flushed_then : (u v y : Account) (got : Result SpanView ℕ) (more : List Entry) → (q : Sought u w.zone w.pages w.pages got v) → length q.flushes ≤ 32 → AreLawful y.profile opening y.seen → y.profile ≡ v.profile → y.seen ≡ v.seen ++ more → AreFlushed y w.zone w.pages w.pages q.flushes
-  flushed_then u v y got more q few lawful same seen = record { are = subst (λ p. AreFlushes p y.seen w.zone w.pages w.pages q.flushes) (sym same) (q.are y.seen more (subst (λ p. AreLawful p opening y.seen) same lawful) seen); each = q.each; few = few }
-
   pub served_fresh : (s t u v x y : Account) (j d : ℕ) (run : SpanView) (r : AnyRegion) (b : SpanView) → HeldTwo s w n al t u → (q : Sought u w.zone w.pages w.pages (Ok run) v) → length q.flushes ≤ 32 → IsFresh v w n al r b x → LetsGo x y → AreLawful y.profile opening y.seen
       → Served (entry_at j s.caller (Full w.magazine n al) ∷ entry_at d s.caller (Full w.depot n al) ∷ []) 2 s w n al (Ok b) y
   served_fresh s t u v x y j d run r b h q few f go lawful =
@@ -368,7 +357,7 @@ module _ (L : BookLaws) (w : Way) (n al : ℕ) where
         grows = rest_grows L s (q.flushes ++ entry_at f.i s.caller (Take w.magazine (run_in r).first w.pages) ∷ entry_at f.j s.caller (New w.magazine b.first n al) ∷ []) 2 x [] y mine go.after;
         nothing_held = ap (λ (a : Account). a.held) go.after;
         served = by_fresh_region b (run_in r).first j d f.i f.j q.flushes refl
-            (flushed_then u v y (Ok run) more q few lawful (ap (λ (a : Account). a.profile) go.after ∙ f.since.grows.adds.same.profile) (ap (λ (a : Account). a.seen) go.after ∙ f.since.grows.adds.seen)) refl refl;
+            (flushed_later u v y w.zone w.pages w.pages (Ok run) more q few lawful (ap (λ (a : Account). a.profile) go.after ∙ f.since.grows.adds.same.profile) (ap (λ (a : Account). a.seen) go.after ∙ f.since.grows.adds.seen)) refl refl;
         is = (f.space ∙ sym (ap (λ (a : Account). a.site) go.after ∙ f.since.grows.adds.same.site), f.size);
       }
 
@@ -384,7 +373,7 @@ module _ (L : BookLaws) (w : Way) (n al : ℕ) where
         grows = rest_grows L s (q.flushes ++ dry_at i s.caller w.zone w.pages w.pages ∷ []) 2 v [] y mine go.after;
         nothing_held = ap (λ (a : Account). a.held) go.after;
         served = null_in_range j d i q.flushes refl
-            (flushed_then u v y (Err i) [] q few lawful (ap (λ (a : Account). a.profile) go.after) (ap (λ (a : Account). a.seen) go.after ∙ sym (append-nil v.seen))) refl refl;
+            (flushed_later u v y w.zone w.pages w.pages (Err i) [] q few lawful (ap (λ (a : Account). a.profile) go.after) (ap (λ (a : Account). a.seen) go.after ∙ sym (append-nil v.seen))) refl refl;
         is = subst (λ (a : Account). IsDried a w.zone w.pages w.pages i) (sym go.after) (record {
           before = q.is.before;
           seen = q.is.seen;

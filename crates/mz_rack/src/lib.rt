@@ -6,7 +6,7 @@
 //! - `way`: the places that serve a caller, and the numbers of their keepers.
 //! - `serve`: how a request for tiny or small goes from place to place.
 //! - `large`: how one for large does.
-//! - `flush`: how it finds pages, for which cached runs of large go back where the pages are dry.
+//! - `flush`: how they find pages, for which cached runs of large go back where the pages are dry.
 //! - `home`: in which place a block lives.
 //! - `free`: how a block ends there, and what its end calls for.
 //! - `shelf`, `stock`, `region`: the parts of a keeper.

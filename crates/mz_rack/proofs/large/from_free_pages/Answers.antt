@@ -7,7 +7,7 @@ use Rattle.mz_book.specs.Account.{known}
 use Rattle.mz_rack.specs.Stages.{at_pages}
 use Rattle.mz_rack.specs.LargeStages.{IsLargeWay}
 use Rattle.mz_rack.proofs.Steps.{can_hold, keeps_at, stands_then}
-use Rattle.mz_rack.proofs.Taking.{few_flushed}
+use Rattle.mz_rack.proofs.Seeking.{few_flushed}
 use Rattle.mz_rack.proofs.LargeSteps.{above_p}
 use Rattle.mz_rack.proofs.LargeServing.{held_pages, can_seek, seeks_still, pages_of_large, served_by_run, served_dry}
 use Rattle.mz_rack.proofs.large.from_free_pages.Goals as goal

@@ -9,7 +9,8 @@ use Rattle.mz_large.specs.Large.{run_of_span}
 use Rattle.mz_rack.specs.Runs.{out_of_pages}
 use Rattle.mz_rack.specs.Stages.{at_large, at_pages}
 use Rattle.mz_rack.proofs.Steps.{can_hold, above_l, above_p, below_l, below_p, stands_then}
-use Rattle.mz_rack.proofs.Taking.{held_two, held_after_l, way_after_l, kept_two, can_seek, sought_k, sought_d, seeks_then, may_fit, length_of_run, is_region, few_flushed, served_fresh, served_null}
+use Rattle.mz_rack.proofs.Taking.{held_two, held_after_l, way_after_l, kept_two, can_seek, sought_k, sought_d, seeks_then, may_fit, length_of_run, is_region, served_fresh, served_null}
+use Rattle.mz_rack.proofs.Seeking.{few_flushed}
 use Rattle.mz_rack.proofs.serve.from_pages.Goals as goal
 
 pub hold-large-requires : goal.hold-large-requires

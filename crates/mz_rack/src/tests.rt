@@ -175,9 +175,10 @@ const FIRST_REQUESTS: [Event; 8] = [
 ];
 
 #[test]
-fn keepers_and_lots_go_from_thread_to_thread() {
+fn keepers_lots_and_racks_go_from_thread_to_thread() {
     is_send_and_sync::<Keeper>();
     is_send_and_sync::<Lot>();
+    is_send_and_sync::<Rack>();
 }
 
 #[test]

@@ -4,8 +4,9 @@
 //! - `Rack`: a zone's requests, served over any book.
 //! - `Lot`: one block with its bytes. `Null` says that no place had room, and `NotLive` that a block is of another zone.
 //! - `way`: the places that serve a caller, and the numbers of their keepers.
-//! - `serve`: how a request goes from place to place.
-//! - `flush`: how it finds pages, for which cached runs of large go back where the pages are dry.
+//! - `serve`: how a request for tiny or small goes from place to place.
+//! - `large`: how one for large does.
+//! - `flush`: how they find pages, for which cached runs of large go back where the pages are dry.
 //! - `home`: in which place a block lives.
 //! - `free`: how a block ends there, and what its end calls for.
 //! - `shelf`, `stock`, `region`: the parts of a keeper.
@@ -17,12 +18,25 @@
 //!                                                take, new
 //! held         1                2                4 keepers
 //!
+//! large    ->  0l    none fits?  ->  p   dry, and nothing cached?  ->  null
+//!              |                     |  \
+//!              new                   |   dry, back: the run that was cached first
+//!                                    take, new
+//! held         1                     2 keepers
+//!
 //! free     ->  0t0 or 0td?  another zone  ->  no
 //!              |
 //!              end          excess?  ->  0td   bare?  ->  p
 //!                                        |                |
 //!                                        move             back
 //! held         1                         2                3 keepers
+//!
+//!          ->  0l?          another zone  ->  no
+//!              |
+//!              end          17 cached?  ------------>  p
+//!                                                      |
+//!                                                      back: the run that was cached first
+//! held         1                                       2 keepers
 //! ```
 //!
 //! A keeper that an entry was noted for stays held until the last entry of the call is noted, so that nobody else
@@ -37,10 +51,12 @@ mod flush;
 mod free;
 mod home;
 mod keeper;
+mod large;
 mod laws;
 mod lot;
 mod rack;
 mod region;
+mod resize;
 mod serve;
 mod shelf;
 mod stock;

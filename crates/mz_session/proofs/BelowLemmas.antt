@@ -1,11 +1,10 @@
 -- A block that is made outside nano ends below nano's pages.
-use Rattle.std.proofs.Common.{◌≡◌, ℕ, ◌+◌, ◌*◌, ◌≤◌, ◌==◌, Bool, true, false, cond, not, List, [], ◌∷◌, ◌++◌, Option, Some, None, refl, ap, sym, subst, ◌∙◌, inl, inr, arith}
-use Rattle.std.specs.Prelude.{◌||◌, ◌⊎◌, map, IsTrue}
+use Rattle.std.proofs.Common.{◌≡◌, ℕ, ◌+◌, ◌*◌, ◌≤◌, ◌==◌, Bool, true, false, cond, not, List, [], ◌∷◌, ◌++◌, Option, Some, None, refl, ap, sym, subst, ◌∙◌, inl, inr, arith, append_assoc}
+use Rattle.std.specs.Prelude.{◌%◌, ◌&&◌, ◌||◌, ◌⊎◌, nat_le, map}
 use Rattle.std.specs.List.{list_any, list_all}
 use Rattle.std.proofs.lemmas.Bool.{cases_Bool, and_parts, and_from, false≢true}
 use Rattle.std.proofs.lemmas.Bool.Decides.{nat_tests}
 use Rattle.std.proofs.lemmas.Option.{none-some}
-use Rattle.std.proofs.lemmas.List.{append-assoc}
 use Rattle.mz_base.specs.declared.profile.Profile.{Profile}
 use Rattle.mz_base.specs.declared.range.TheConstants.{PAGE}
 use Rattle.mz_base.specs.Space.{Block, Run, block_at, block_end, run_end, same_block, same_run}
@@ -15,8 +14,8 @@ use Rattle.mz_events.specs.declared.entry.Entry.{Entry}
 use Rattle.mz_events.specs.declared.event.Event.{Event}
 use Rattle.mz_events.specs.declared.event.Event.TheVariants.{Take, Back, Move, New, End, Size, Full, Dry, No, Open, Shut}
 use Rattle.mz_events.specs.declared.place.Place.{Place}
-use Rattle.mz_events.specs.Places.{is_nano, nano_start, spot_at}
-use Rattle.mz_events.specs.Placement.{lies_in_place}
+use Rattle.mz_events.specs.Places.{is_nano, is_large, quantum_of, nano_start, spot_at}
+use Rattle.mz_events.specs.Placement.{lies_in_nano, lies_in_place}
 use Rattle.mz_events.specs.Rules.{Fits}
 use Rattle.mz_events.specs.State.{State, opening, kept_at}
 use Rattle.mz_events.specs.Changes.{one_for}
@@ -27,16 +26,11 @@ use Rattle.mz_book.specs.Calls.{is_at_nano}
 use Rattle.mz_book.specs.Living.{times}
 use Rattle.mz_session.specs.Counts.{AreBelowNano}
 use Rattle.mz_session.specs.SessionLaws.{SessionLaws}
-use Rattle.mz_session.proofs.CountLemmas.{some-is, same-is, count-cons, count-append, count-gone, count-others}
+use Rattle.mz_session.proofs.CountLemmas.{or-left, or-right, some-is, same-is, count-cons, count-append, count-gone, count-others}
 
 either-true : (a b : Bool) → (a || b) ≡ true → (a ≡ true) ⊎ (b ≡ true)
 either-true true b h = inl refl
 either-true false b h = inr h
-
-or-true : (a b : Bool) → (a ≡ true) ⊎ (b ≡ true) → (a || b) ≡ true
-or-true true b h = refl
-or-true false b (inl h) = absurd (false≢true h)
-or-true false b (inr h) = h
 
 same-run-self : (r : Run) → same_run r r ≡ true
 same-run-self r = and_from (r.first == r.first) (r.pages == r.pages) (grind (arith, nat_tests)) (grind (arith, nat_tests))
@@ -46,20 +40,27 @@ within-runs : (rs : List Run) (x y m : ℕ) → ((r : Run) → has_run rs r ≡ 
 within-runs [] x y m ends some = absurd (false≢true some)
 within-runs (r ∷ rs) x y m ends some = elim (either-true (lies_in r x y) (list_any (λ t. lies_in t x y) rs) some) [
   | inl here ↦
-      let last = ends r (or-true (same_run r r) (has_run rs r) (inl (same-run-self r))) in
-      let low : y ≤ run_end r * PAGE = grind (arith, nat_tests, (and_parts _ _ here).1) in
+      let last = ends r (or-left (same_run r r) (has_run rs r) (same-run-self r)) in
+      let inside = (and_parts (nat_le (r.first * PAGE) x) (nat_le y (run_end r * PAGE)) here).1 in
+      let low : y ≤ run_end r * PAGE = grind (arith, nat_tests, inside) in
       omega (arith, last, low)
-  | inr there ↦ within-runs rs x y m (λ t at. ends t (or-true (same_run t r) (has_run rs t) (inr at))) there
+  | inr there ↦ within-runs rs x y m (λ t at. ends t (or-right (same_run t r) (has_run rs t) at)) there
 ]
+
+not-nano : (d x y : Bool) → d ≡ false → cond d x y ≡ true → y ≡ true
+not-nano true x y other lies = absurd (false≢true (sym other))
+not-nano false x y other lies = lies
 
 module _ (L : SessionLaws) (p : Profile) where
   in-place : (es : List Entry) (k : Place) (b : Block) → AreLawful p opening es → is_nano k ≡ false
       → lies_in_place p k (kept_at (after_all p opening es) (spot_at k b.first)).runs b ≡ true → block_end b ≤ nano_start p * PAGE
   in-place es k b ok other lies =
-      let s = after_all p opening es in
       let j = spot_at k b.first in
-      let here = ap (λ d. cond d _ _) (sym other) ∙ lies in
-      within-runs (kept_at s j).runs b.first (block_end b) (nano_start p) (λ r at. (L.separate p es ok).below_nano j r at) (and_parts _ _ here).0
+      let runs = (kept_at (after_all p opening es) j).runs in
+      let there = list_any (λ r. lies_in r b.first (block_end b)) runs in
+      let whole = is_large k || ((b.first % quantum_of k == 0) && (b.size % quantum_of k == 0)) in
+      let here : (there && whole) ≡ true = not-nano (is_nano k) (lies_in_nano p b) (there && whole) other lies in
+      within-runs runs b.first (block_end b) (nano_start p) (λ r at. (L.separate p es ok).below_nano j r at) (and_parts there whole here).0
 
   -- the block that an event makes outside nano
   by-event : (es : List Entry) (c : ℕ) (e : Event) (b : Block) → AreLawful p opening es → Fits p (after_all p opening es) c e → not (is_at_nano e) ≡ true
@@ -91,7 +92,7 @@ module _ (L : SessionLaws) (p : Profile) where
       → block_end b ≤ nano_start p * PAGE
   below-made h [] b ok outside made = absurd (none-some b made)
   below-made h (e ∷ es) b ok outside made =
-      let both : AreLawful p opening ((h ++ e ∷ []) ++ es) = subst (AreLawful p opening) (sym (append-assoc h (e ∷ []) es)) ok in
+      let both : AreLawful p opening ((h ++ e ∷ []) ++ es) = subst (AreLawful p opening) (sym (append_assoc h (e ∷ []) es)) ok in
       let first = ((L.joined p opening (h ++ e ∷ []) es).0 both).0 in
       let parts = (L.joined p opening h (e ∷ [])).0 first in
       let out = and_parts (not (is_at_nano e.event)) (list_all (λ x. not (is_at_nano x.event)) es) outside in

@@ -33,6 +33,7 @@ use Rattle.mz_fit.specs.Tail.{listed, listing_of}
 use Rattle.mz_session.specs.Counts.{AreBelowNano}
 use Rattle.mz_session.specs.Listing.{listed_first}
 use Rattle.mz_session.specs.ListingLaws.{ListingLaws}
+use Rattle.mz_session.proofs.CountLemmas.{or-left, or-right}
 
 same_true : (x y : Block) → same_block x y ≡ true → x ≡ y
 same_true x y same =
@@ -202,19 +203,14 @@ times_sum b (x ∷ xs) =
     let ih = times_sum b xs in
     omega (arith, n, v, ih)
 
-or_true : (a b : Bool) → (a ≡ true) ⊎ (b ≡ true) → (a || b) ≡ true
-or_true true b h = refl
-or_true false b (inl h) = absurd (false≢true h)
-or_true false b (inr h) = h
-
 contains_has : (bs : List Block) (x : Block) → Contains bs x → has_block bs x ≡ true
 contains_has [] x there = absurd (let low = there.1 in omega (arith, low))
 contains_has (y ∷ ys) x there = elim (Contains-append_cases (y ∷ []) ys x there) [
   | inl here ↦ elim (Contains-push_cases [] y x here) [
     | inl nowhere ↦ absurd (let low = nowhere.1 in omega (arith, low))
-    | inr same ↦ or_true (same_block x y) (has_block ys x) (inl (subst (λ z. same_block z y ≡ true) same (same_refl y)))
+    | inr same ↦ or-left (same_block x y) (has_block ys x) (subst (λ z. same_block z y ≡ true) same (same_refl y))
   ]
-  | inr behind ↦ or_true (same_block x y) (has_block ys x) (inr (contains_has ys x behind))
+  | inr behind ↦ or-right (same_block x y) (has_block ys x) (contains_has ys x behind)
 ]
 
 live_there : (xs : List (Spot × Block)) (x : Spot × Block) → Contains xs x → list_any (λ y. same_block x.1 y.1) xs ≡ true
@@ -222,9 +218,9 @@ live_there [] x there = absurd (let low = there.1 in omega (arith, low))
 live_there (y ∷ ys) x there = elim (Contains-append_cases (y ∷ []) ys x there) [
   | inl here ↦ elim (Contains-push_cases [] y x here) [
     | inl nowhere ↦ absurd (let low = nowhere.1 in omega (arith, low))
-    | inr same ↦ or_true (same_block x.1 y.1) (list_any (λ z. same_block x.1 z.1) ys) (inl (subst (λ z. same_block z.1 y.1 ≡ true) same (same_refl y.1)))
+    | inr same ↦ or-left (same_block x.1 y.1) (list_any (λ z. same_block x.1 z.1) ys) (subst (λ z. same_block z.1 y.1 ≡ true) same (same_refl y.1))
   ]
-  | inr behind ↦ or_true (same_block x.1 y.1) (list_any (λ z. same_block x.1 z.1) ys) (inr (live_there ys x behind))
+  | inr behind ↦ or-right (same_block x.1 y.1) (list_any (λ z. same_block x.1 z.1) ys) (live_there ys x behind)
 ]
 
 -- a block's range is that of its size

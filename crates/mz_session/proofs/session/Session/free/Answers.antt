@@ -51,13 +51,6 @@ free-got-requires-clause-lot g c =
     let held : lot_named s.lots word ≡ Some c.in-Some.lot = ap (λ x. lot_named x.lots word) (sym c.self.view_is) ∙ sym c.remove.ensures.lot ∙ c.in-Some.is in
     freeable s c.requires b room word c.in-Some.lot held
 
-pub free-got-requires-clause-small : goal.free-got-requires-clause-small
-free-got-requires-clause-small g c =
-    let s : SessionView = c.args.self.now in
-    let word = c.in-Base.base in
-    let held : lot_named s.lots word ≡ Some c.in-Some.lot = ap (λ x. lot_named x.lots word) (sym c.self.view_is) ∙ sym c.remove.ensures.lot ∙ c.in-Some.is in
-    (c.requires.of_space word c.in-Some.lot held).small
-
 pub unreachable-requires : goal.unreachable-requires
 unreachable-requires g c =
     let s : SessionView = c.args.self.now in

@@ -1,22 +1,28 @@
 -- What the calls of large answer, for each place for which its keeper stands.
-use Rattle.std.proofs.Common.{◌≡◌, ◌⊎◌, ℕ, ◌≤◌, true, false, Bool, List, [], ◌∷◌, Option, None, Some, ap, sym, subst, ◌∙◌, inl, inr}
-use Rattle.std.specs.Prelude.{MatchOption, if◌then◌else◌}
+use Rattle.std.proofs.Common.{◌≡◌, ◌⊎◌, ℕ, ◌/◌, ◌≤◌, length, true, false, Bool, List, [], ◌∷◌, Option, None, Some, ap, sym, subst, ◌∙◌, inl, inr}
+use Rattle.std.specs.Prelude.{MatchOption, IsTrue, if◌then◌else◌}
 use Rattle.std.specs.List.{list_all}
-use Rattle.std.proofs.lemmas.Bool.{false≢true}
+use Rattle.std.proofs.lemmas.Bool.{false≢true, false_from_ne_true}
 use Rattle.mz_base.specs.declared.profile.Profile.{Profile}
 use Rattle.mz_base.specs.Site.{Site}
+use Rattle.mz_base.specs.declared.range.TheConstants.{PAGE}
 use Rattle.mz_base.specs.Space.{Run, Block, blocks_apart, bytes_of}
 use Rattle.mz_base.specs.Lists.{has_run}
 use Rattle.mz_ground.specs.Views.{SpanView}
-use Rattle.mz_large.specs.Large.{run_of_span, space_while, HandsOut}
+use Rattle.mz_large.specs.Large.{block_of, run_of_span, space_while, HandsOut, Reuses}
 use Rattle.mz_events.specs.declared.place.Place.{Place}
 use Rattle.mz_events.specs.declared.place.Place.TheVariants.{Large}
+use Rattle.mz_events.specs.declared.event.Event.TheVariants.{Back, New}
 use Rattle.mz_events.specs.State.{Kept}
-use Rattle.mz_events.specs.Changes.{without_run}
+use Rattle.mz_events.specs.Room.{any_fits, best_fit}
+use Rattle.mz_events.specs.Changes.{with_block, with_run, without_run}
 use Rattle.mz_events.specs.Standing.{RegionsKept, LargeKept, PagesKept, Keeping, Stands, StandsForLarge, IsOf, stretches_below}
+use Rattle.mz_book.specs.Account.{Account}
+use Rattle.mz_book.specs.Calls.{CanNote, Notes}
 use Rattle.mz_rack.specs.declared.keeper.Kind.{Kind}
 use Rattle.mz_rack.specs.declared.keeper.Kind.TheVariants as kind
 use Rattle.mz_rack.specs.Kinds.{keeping_of}
+use Rattle.mz_rack.specs.Runs.{Reused}
 use Rattle.mz_rack.specs.Flushing.{Flushed}
 
 pub of_large : (i : Kind) (v : LargeKept) (n : Keeping) → keeping_of i ≡ n → i ≡ kind.Large v → (x : Site) (p : Profile) (q : Place) (k : Kept) → Stands n x p q k → StandsForLarge v x p q k
@@ -59,3 +65,50 @@ flushed v u (Some s) x p z k st h =
         keeps = kept;
       },
     )
+
+-- THE BEST FIT is a block again
+pub reused : (v u : LargeKept) (got : Option SpanView) (w : ℕ) (x : Site) (p : Profile) (z : ℕ) (k : Kept) → StandsForLarge v x p (Large z) k
+    → MatchOption got ((u ≡ v) × ¬ IsTrue (any_fits v.kept.cached w)) (λ s. (best_fit v.kept.cached w ≡ Some (run_of_span s)) × Reuses v s u)
+    → Reused x k w (StandsForLarge u x p (Large z)) got
+reused v u None w x p z k st h =
+    (ap (λ (j : Kept). any_fits j.cached w) (sym st.keeps) ∙ false_from_ne_true (any_fits v.kept.cached w) h.1, subst (λ (y : LargeKept). StandsForLarge y x p (Large z) k) (sym h.0) st)
+reused v u (Some s) w x p z k st h =
+    let out = h.1 in (
+      record {
+        space = subst (λ o. IsOf o x) out.cached.space st.space;
+        whole = out.cached.whole;
+        best = ap (λ (j : Kept). best_fit j.cached w) (sym st.keeps) ∙ h.0;
+        there = ap (λ (j : Kept). has_run j.runs (run_of_span s)) (sym st.keeps) ∙ out.cached.run;
+        unused = ap (λ (j : Kept). list_all (λ b. blocks_apart b (block_of s)) j.live) (sym st.keeps) ∙ out.cached.apart;
+      },
+      record {
+        kind = st.kind;
+        space = subst (λ o. IsOf o x) (sym (ap (λ (y : LargeKept). y.space) out.left)) (while_of u.kept.cached v.space x st.space);
+        room = subst (λ n. stretches_below p 3 ≤ n) (sym (ap (λ (y : LargeKept). y.room) out.left)) st.room;
+        keeps = ap (λ (y : LargeKept). y.kept) out.left ∙ ap (with_block (block_of s)) st.keeps;
+      },
+    )
+
+-- A FRESH RUN is a block
+pub entered : (v u : LargeKept) (s : SpanView) (x : Site) (p : Profile) (z : ℕ) (k : Kept) → StandsForLarge v x p (Large z) k
+    → u ≡ record v { kept = with_block (block_of s) (with_run (run_of_span s) v.kept) } → StandsForLarge u x p (Large z) (with_block (block_of s) (with_run (run_of_span s) k))
+entered v u s x p z k st h = record {
+  kind = st.kind;
+  space = subst (λ o. IsOf o x) (sym (ap (λ (y : LargeKept). y.space) h)) st.space;
+  room = subst (λ n. stretches_below p 3 ≤ n) (sym (ap (λ (y : LargeKept). y.room) h)) st.room;
+  keeps = ap (λ (y : LargeKept). y.kept) h ∙ ap (λ (j : Kept). with_block (block_of s) (with_run (run_of_span s) j)) st.keeps;
+}
+
+-- the event that is noted is that of the run
+pub as_run : (t : Account) (z : ℕ) (x : SpanView) (first len : ℕ) → first ≡ x.first → len ≡ length x.bytes → CanNote t (Back (Large z) (run_of_span x).first (run_of_span x).pages) → CanNote t (Back (Large z) (first / PAGE) (len / PAGE))
+as_run t z x first len begins long can = subst (λ a. CanNote t (Back (Large z) (a / PAGE) (len / PAGE))) (sym begins) (subst (λ n. CanNote t (Back (Large z) (x.first / PAGE) (n / PAGE))) (sym long) can)
+
+pub was_noted : (t u : Account) (z j : ℕ) (x : SpanView) (first len : ℕ) → first ≡ x.first → len ≡ length x.bytes → Notes t (Back (Large z) (first / PAGE) (len / PAGE)) j u → Notes t (Back (Large z) (run_of_span x).first (run_of_span x).pages) j u
+was_noted t u z j x first len begins long h = subst (λ n. Notes t (Back (Large z) (x.first / PAGE) (n / PAGE)) j u) long (subst (λ a. Notes t (Back (Large z) (a / PAGE) (len / PAGE)) j u) begins h)
+
+-- the event that is noted is that of the block
+pub as_block : (s : Account) (z al : ℕ) (x : SpanView) (first len : ℕ) → first ≡ x.first → len ≡ length x.bytes → CanNote s (New (Large z) x.first (length x.bytes) al) → CanNote s (New (Large z) first len al)
+as_block s z al x first len begins long can = subst (λ a. CanNote s (New (Large z) a len al)) (sym begins) (subst (λ n. CanNote s (New (Large z) x.first n al)) (sym long) can)
+
+pub was_block : (s t : Account) (z al i : ℕ) (x : SpanView) (first len : ℕ) → first ≡ x.first → len ≡ length x.bytes → Notes s (New (Large z) first len al) i t → Notes s (New (Large z) x.first (length x.bytes) al) i t
+was_block s t z al i x first len begins long h = subst (λ n. Notes s (New (Large z) x.first n al) i t) long (subst (λ a. Notes s (New (Large z) a len al) i t) begins h)

@@ -20,5 +20,8 @@ mod GivingBack
 mod Dropping
 mod Flushing
 mod LargeLemmas
+mod LargeSteps
+mod LargeServing
+mod LargeAnswered
 mod Seeking
 mod TwoZones

@@ -12,6 +12,8 @@ pub mod Stages
 pub mod Ending
 pub mod FreeStages
 pub mod BookLaws
+pub mod Runs
 pub mod Flushing
 pub mod Seeking
+pub mod LargeStages
 pub mod TwoZones

@@ -4,7 +4,8 @@
 //! - `Rack`: a zone's requests, served over any book.
 //! - `Lot`: one block with its bytes. `Null` says that no place had room, and `NotLive` that a block is of another zone.
 //! - `way`: the places that serve a caller, and the numbers of their keepers.
-//! - `serve`: how a request goes from place to place.
+//! - `serve`: how a request for tiny or small goes from place to place.
+//! - `large`: how one for large does.
 //! - `flush`: how it finds pages, for which cached runs of large go back where the pages are dry.
 //! - `home`: in which place a block lives.
 //! - `free`: how a block ends there, and what its end calls for.
@@ -16,6 +17,12 @@
 //!              new              move, new        |   dry, back: the run that was cached first
 //!                                                take, new
 //! held         1                2                4 keepers
+//!
+//! large    ->  0l    none fits?  ->  p   dry, and nothing cached?  ->  null
+//!              |                     |  \
+//!              new                   |   dry, back: the run that was cached first
+//!                                    take, new
+//! held         1                     2 keepers
 //!
 //! free     ->  0t0 or 0td?  another zone  ->  no
 //!              |
@@ -37,6 +44,7 @@ mod flush;
 mod free;
 mod home;
 mod keeper;
+mod large;
 mod laws;
 mod lot;
 mod rack;

@@ -95,6 +95,15 @@ pub enum Null {
     },
 }
 
+impl Null {
+    /// The number of its kind among the refusals.
+    pub fn number(&self) -> u8
+        ensures { result ≡ 1 }
+    {
+        1
+    }
+}
+
 /// That a block is of another zone: the lot, as it was handed in, and the ticket of the entry that says so.
 #[derive(Drop)]
 pub struct NotLive {

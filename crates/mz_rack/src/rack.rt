@@ -9,11 +9,12 @@ ghost use Rattle.mz_rack.specs.Freeing.{IsFreeable, Frees};
 use crate::free::{deny, end_block};
 use crate::home::find_home;
 use crate::keeper::Keeper;
+use crate::large::serve_large;
 use crate::laws::of_books;
 use crate::lot::{Lot, NotLive, Null};
 use crate::serve::serve;
-use crate::way::find_way;
-use mz_base::{Profile, route, unit, units};
+use crate::way::{find_large_way, find_way};
+use mz_base::{Profile, Range, route, unit, units};
 use mz_book::Book;
 use mz_events::laws::entries::states_split;
 use mz_record::laws::moments;
@@ -40,13 +41,13 @@ impl Rack {
         Ok(Rack { profile: *p, zone })
     }
 
-    /// A block for a request of `n` bytes at the alignment `al`, a power of two from 16 to 16,384. It comes from the
-    /// caller's magazine; or from the lowest region of the depot with room, which moves to the magazine; or from a
-    /// fresh region, for which the zone's cached large runs go back to the pages, the one cached first before the others, as
-    /// long as these have no run for it. `Null` comes only where the magazine and the depot have no room, the pages have no
-    /// run for a region, and nothing is cached.
+    /// A block for a request of `n` bytes at the alignment `al`, a power of two from 16 to 16,384.
     ///
-    /// Until there are large blocks `n` is at most 32,768.
+    /// Tiny and small come from the caller's magazine; or from the lowest region of the depot with room, which moves to the
+    /// magazine; or from a fresh region. Large is the cached run that fits best, or a fresh run.
+    ///
+    /// Where the pages have no run for a fresh one, the zone's cached large runs go back to them, the one cached first before
+    /// the others, as long as that is so. `Null` comes only where they have none still, and nothing is cached.
     pub fn alloc<B: Book<Keeper>, R: Wait>(
         &self,
         rt: &R,
@@ -55,7 +56,6 @@ impl Rack {
         al: u64,
     ) -> Result<Lot, Null>
         requires can { CanServe (B.account book.old) self.now.profile self.now.zone 36 }
-        requires small { n ≤ 32768 }
         requires power { IsPowerOfTwo al }
         requires range { IsFrom 16 16384 al }
         ensures { Answers (B.account book.old) self.now.zone n al result (B.account book.new) }
@@ -63,9 +63,14 @@ impl Rack {
         of_books();
         states_split();
         moments();
-        let way = find_way(&self.profile, self.zone, book.caller(), n);
-        let size = units(n) * unit(route(n));
-        match serve(rt, book, &way, size, al) {
+        let served = if route(n) == Range::Large {
+            let way = find_large_way(&self.profile, self.zone);
+            serve_large(rt, book, &way, units(n), al)
+        } else {
+            let way = find_way(&self.profile, self.zone, book.caller(), n);
+            serve(rt, book, &way, units(n) * unit(route(n)), al)
+        };
+        match served {
             Ok(span) => Ok(Lot::new(self.zone, span)),
             Err(null) => Err(null),
         }

@@ -14,6 +14,7 @@ use std::sync::Wait;
 use std::test::Fail;
 
 mod freeing;
+mod large;
 mod zones;
 
 const TINY: Place = Place::Tiny { zone: 0, mag: 0 };
@@ -67,7 +68,6 @@ fn ask<R: Wait>(
 ) -> Result<Result<Lot, Null>, AllocError>
     requires can { CanServe (⟦<PlainBook<Keeper> as Book<Keeper>>⟧.account book.old) rack.now.profile rack.now.zone 0 }
     requires caller { caller < rack.now.profile.callers }
-    requires small { n ≤ 32768 }
     requires power { IsPowerOfTwo al }
     requires range { IsFrom 16 16384 al }
     ensures { (z : ℕ) → CanServe (⟦<PlainBook<Keeper> as Book<Keeper>>⟧.account book.old) rack.now.profile z 0 → CanServe (⟦<PlainBook<Keeper> as Book<Keeper>>⟧.account book.new) rack.now.profile z 0 }
@@ -87,7 +87,6 @@ fn ask_often<R: Wait>(
 ) -> Result<bool, AllocError>
     requires can { CanServe (⟦<PlainBook<Keeper> as Book<Keeper>>⟧.account book.old) rack.now.profile rack.now.zone 0 }
     requires caller { 0 < rack.now.profile.callers }
-    requires small { n ≤ 32768 }
     ensures { CanServe (⟦<PlainBook<Keeper> as Book<Keeper>>⟧.account book.new) rack.now.profile rack.now.zone 0 }
 {
     let mut each = true;

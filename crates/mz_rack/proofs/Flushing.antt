@@ -29,6 +29,7 @@ use Rattle.mz_rack.specs.FreeStages.{IsLast}
 use Rattle.mz_rack.specs.Seeking.{CanSeek, cached_in, KeepsOthers, dry_at, IsFlushed, IsEmpty}
 use Rattle.mz_rack.proofs.Steps.{below_test, same_spot_refl, two_spots, held_at, held_still, learn_touched, learn_other, can_note}
 use Rattle.mz_rack.proofs.Answered.{MomentLaws}
+use Rattle.mz_rack.proofs.PushingOut.{can_go_back, large_left, pages_left, is_lacked}
 use Rattle.mz_rack.proofs.Ended.{is_last, duty_then, back_touches, met_first}
 use Rattle.mz_rack.proofs.Undisturbed.{AreIndices, indices_behind, not_below, in_front, own_in}
 
@@ -125,19 +126,7 @@ module _ (L : BookLaws) (z w al : ℕ) (s : Account) (k : CanSeek s z w al) wher
 
     pub can_back : t.caller < t.profile.callers → 1 ≤ t.spare → CanNote t (Back (Large z) (run_of_span x).first (run_of_span x).pages)
     can_back c room =
-        can_note t (Back (Large z) (run_of_span x).first (run_of_span x).pages) room refl refl refl
-        (λ j y. ⊎_elim (λ (e : j ≡ spot_of (Large z)). held_at t j (spot_of (Large z)) e here_l) (λ (e : j ≡ at_pages). held_at t j at_pages e here_p) (two_spots L j (spot_of (Large z)) at_pages y))
-        (((L.fits t.profile (state_of t) t.caller).give_back (Large z) (run_of_span x).first (run_of_span x).pages).1 (record {
-          caller = c;
-          kind = refl;
-          exists = below_test z t.profile.zones (subst (λ (p : Profile). z < p.zones) (sym d.since.grows.adds.same.profile) k.zone);
-          allowed = inr duty_l;
-          pages_allowed = inr duty_p;
-          here = old.there;
-          unused = old.unused;
-          no_magazine = λ _. refl;
-          owed = λ _ _. duty_l;
-        }))
+        can_go_back L t z x old here_l here_p c room (below_test z t.profile.zones (subst (λ (p : Profile). z < p.zones) (sym d.since.grows.adds.same.profile) k.zone)) duty_l (inr duty_p)
 
     pub record IsBack (j : ℕ) (u : Account) : Type 0 where
       pub flushed : IsFlushed s z w al u
@@ -175,8 +164,8 @@ module _ (L : BookLaws) (z w al : ℕ) (s : Account) (k : CanSeek s z w al) wher
     is_back M j u lawful can h =
         let e = Back (Large z) (run_of_span x).first (run_of_span x).pages in
         let since = L.note t u e j can refl h in
-        let at_l = learn_touched t e j u (spot_of (Large z)) h here_l (rw (same_spot_refl L (spot_of (Large z))) refl) ∙ (L.leaves (state_of t) t.caller).give_back (Large z) (run_of_span x).first (run_of_span x).pages refl in
-        let at_p = learn_touched t e j u at_pages h here_p refl ∙ (L.leaves (state_of t) t.caller).give_back_pages (Large z) (run_of_span x).first (run_of_span x).pages in
+        let at_l = large_left L t z x old here_l here_p j u h in
+        let at_p = pages_left L t z x old here_l here_p j u h in
         let held = ap (λ (v : Account). v.held) h.after ∙ d.stays.held in
         let c = d.since.grows.adds.same.caller in
         let both = L.joined s t u (dry_at i s.caller z w al ∷ []) (entry_at j t.caller e ∷ []) 0 0 d.since since in
@@ -201,11 +190,4 @@ module _ (L : BookLaws) (z w al : ℕ) (s : Account) (k : CanSeek s z w al) wher
         }
 
     pub lacked : AreLawful t.profile opening t.seen → IsLackedRun t.profile (known t at_pages).kept x
-    lacked lawful =
-        let separate = L.separate t.profile t.seen lawful in
-        record {
-          taken = (L.ascending t.profile t.seen lawful).taken;
-          whole = old.whole;
-          there = (separate.taken (run_of_span x)).1 (spot_of (Large z), old.there);
-          below = separate.below_nano (spot_of (Large z)) (run_of_span x) old.there;
-        }
+    lacked lawful = is_lacked L t z x old here_l here_p lawful

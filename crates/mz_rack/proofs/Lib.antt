@@ -13,10 +13,12 @@ mod KeeperLemmas
 mod StockLemmas
 mod OpeningLemmas
 mod Asked
+mod OpenZones
 mod Looking
 mod Ended
 mod PuttingAside
 mod GivingBack
+mod PushingOut
 mod Dropping
 mod Flushing
 mod LargeLemmas

@@ -22,10 +22,10 @@ ghost use Rattle.mz_rack.specs.Keepings.{lists_of};
 ghost use Rattle.mz_rack.specs.Regions.{quantum_in, run_in, view_in};
 ghost use Rattle.mz_rack.specs.Asking.{IsTidy, MayAsk, MayYield, MayAdopt};
 ghost use Rattle.mz_rack.specs.Answering.{Placed, FoundRoom, Yielded};
-ghost use Rattle.mz_rack.specs.Flushing.{Flushed, IsLackedRun, MayPutRunBack};
+ghost use Rattle.mz_rack.specs.Flushing.{Flushed, PushedOut, IsLackedRun, MayPutRunBack};
 ghost use Rattle.mz_rack.specs.Runs.{MaySeekRun, FoundRun, MayFit, IsFitted, with_region_for, Reused, MayEnter};
 ghost use Rattle.mz_large.specs.Large.{block_of, run_of_span};
-ghost use Rattle.mz_rack.specs.Ending.{MayFree, IsLacked, MayPutBack};
+ghost use Rattle.mz_rack.specs.Ending.{has_blocks, MayFree, IsLacked, MayPutBack};
 
 use crate::region::AnyRegion;
 use crate::shelf::Shelf;
@@ -298,18 +298,25 @@ impl Keeper {
         stock.pages.back(run);
     }
 
-    // Takes a live block of a magazine or a depot back.
-    pub(crate) fn free(&mut self, span: Span)
+    // Takes a live block back. Where large caches 17 runs then, the one that was cached first comes out.
+    pub(crate) fn free(&mut self, span: Span) -> Option<Span>
         requires { MayFree self.old span }
-        ensures { (x : Site) (p : profile) (q : place) (k : Kept) → Stands self.old x p q k → IsTrue (is_magazine q || is_depot q) → Stands self.new x p q (without_block q (block_at span.first (length span.bytes)) k) }
+        ensures { (x : Site) (p : profile) (q : place) (k : Kept) → Stands self.old x p q k → IsTrue (has_blocks q) → span.space ≡ x → PushedOut x q (without_block q (block_at span.first (length span.bytes)) k) (Stands self.new x p q) result }
     {
-        let freed = match &mut self.kind {
-            Kind::Tiny(shelf) => shelf.magazine.free(span),
-            Kind::Small(shelf) => shelf.magazine.free(span),
-            Kind::Pages(_) | Kind::Large(_) => Err(span),
-        };
-        if freed.is_err() {
-            unreachable!()
+        match &mut self.kind {
+            Kind::Tiny(shelf) => match shelf.magazine.free(span) {
+                Ok(()) => None,
+                Err(_) => unreachable!(),
+            },
+            Kind::Small(shelf) => match shelf.magazine.free(span) {
+                Ok(()) => None,
+                Err(_) => unreachable!(),
+            },
+            Kind::Large(large) => match large.free(span) {
+                Ok(pushed) => pushed,
+                Err(_) => unreachable!(),
+            },
+            Kind::Pages(_) => unreachable!(),
         }
     }
 

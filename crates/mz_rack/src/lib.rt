@@ -30,6 +30,13 @@
 //!                                        |                |
 //!                                        move             back
 //! held         1                         2                3 keepers
+//!
+//!          ->  0l?          another zone  ->  no
+//!              |
+//!              end          17 cached?  ------------>  p
+//!                                                      |
+//!                                                      back: the run that was cached first
+//! held         1                                       2 keepers
 //! ```
 //!
 //! A keeper that an entry was noted for stays held until the last entry of the call is noted, so that nobody else

@@ -1,5 +1,5 @@
 //! A zone's requests.
-ghost use Rattle.std.specs.Prelude.{◌≡◌, ◌<◌, ◌≤◌, length, IfOk};
+ghost use Rattle.std.specs.Prelude.{◌≡◌, ◌<◌, ◌≤◌, IfOk};
 ghost use Rattle.std.specs.Int.{IsPowerOfTwo};
 ghost use Rattle.mz_base.specs.Limits.{IsWithinLimits, IsFrom};
 ghost use Rattle.mz_base.specs.Codes.{limits_once};
@@ -78,12 +78,11 @@ impl Rack {
 
     /// Ends a block of the rack's zone, in the place where it lives. A magazine that is left in excess gives its
     /// lowest sparse region to the depot, and a region of the depot that is left without live blocks goes back to the
-    /// pages, each at once. `NotLive` comes exactly where the lot is of another zone, and hands it back.
+    /// pages, each at once. The run of a large block is cached; where that makes 17, the one cached first goes back to
+    /// the pages. `NotLive` comes exactly where the lot is of another zone, and hands it back.
     ///
     /// The block is looked for in one place after another. Meanwhile others may move its region, and then
     /// the search begins again; between rounds it is found in the first.
-    ///
-    /// Until there are large blocks the lot has at most 32,768 bytes.
     pub fn free<B: Book<Keeper>, R: Wait>(
         &self,
         rt: &R,
@@ -92,7 +91,6 @@ impl Rack {
     ) -> Result<(), NotLive>
         requires can { CanServe (B.account book.old) self.now.profile self.now.zone 3 }
         requires lot { IsFreeable (B.account book.old) lot }
-        requires small { length lot.span.bytes ≤ 32768 }
         ensures { Frees (B.account book.old) self.now.zone lot result (B.account book.new) }
     {
         of_books();

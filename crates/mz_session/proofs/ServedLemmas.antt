@@ -300,10 +300,7 @@ pub freeable :
     (s : SessionView) (kept : IsKept s) (b : Account) (room : HasMoreRoom s.book b) (word : List ℕ) (l : LotView) → lot_named s.lots word ≡ Some l → IsFreeable b l
 freeable s kept b room word l held =
     let of_l = kept.of_space word l held in
-    let zones = ap (λ x. x.profile.zones) room ∙ kept.for_one.zones in
     record {
       in_hand = in-hand s kept b room word l held;
-      zone = let z = of_l.zone in omega (arith, z, zones);
-      zone_open = ap (λ x. is_open (state_of x) l.zone) room ∙ ap (λ z. is_open (state_of s.book) z) of_l.zone ∙ kept.zone_open;
       space = of_l.space ∙ ap (λ x. x.site) (sym room);
     }

@@ -1,5 +1,5 @@
 use Rattle.mz_rack.specs.FreeStages.{PassedBy}
-use Rattle.mz_rack.proofs.home.look_around.Given as goal
+use Rattle.mz_rack.proofs.home.look_in_regions.Given as goal
 
 -- the block wasn't found so far
 abbrev pub invariant-loop-mag : goal.invariant-loop-mag

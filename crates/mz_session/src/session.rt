@@ -80,7 +80,7 @@ impl Session {
 
     /// Serves a request for a block of `n` bytes that is to have the name. After want of memory the session may be any.
     pub fn malloc<R: Wait>(&mut self, rt: &R, name: BaseName, n: u64) -> Result<Answer, AllocError>
-        requires kept { IsKept self.old }
+        requires { IsKept self.old }
         ensures { IfOk result (λ answer. Serves self.old (command.Malloc name n) answer self.new) }
     {
         of_sessions();

@@ -11,14 +11,20 @@ use std::thread::Threads;
 // A space for a tiny region; and one for a small region and, where that is taken first, for a tiny one behind
 // it. A region has room for all that a trace asks.
 const FOR_TINY: &str = "space 64 callers 1 magazines 3 nano 0 gen 1024 zones 1\n";
+
 const FOR_BOTH: &str = "space 576 callers 1 magazines 3 nano 0 gen 1024 zones 1\n";
+
 const TINY_REGION: u64 = 1_048_576;
+
 const SMALL_REGION: u64 = 8_388_608;
 
 // How many traces there are, and each so many asks for small blocks too.
 const TRACES: u64 = 100;
+
 const SMALL_EACH: u64 = 5;
+
 const COMMANDS: u64 = 40;
+
 const NAMES: u64 = 16;
 
 // The largest block of tiny.
@@ -93,13 +99,21 @@ impl Plain {
         let mut text = String::new(alloc);
         self.blocks.sort_unstable_by_key(|b| b.first);
         for block in self.blocks.as_slice() {
-            let range = if block.size > MOST_TINY { "small" } else { "tiny" };
+            let range = if block.size > MOST_TINY {
+                "small"
+            } else {
+                "tiny"
+            };
             writeln!(text, "block {} {} {range} default", block.first, block.size)?;
         }
         writeln!(text, "blocks_in_use {}", self.blocks.len())?;
         writeln!(text, "size_in_use {}", self.sum())?;
         writeln!(text, "max_size_in_use {}", self.greatest)?;
-        writeln!(text, "size_allocated {}", self.tiny.wrapping_add(self.small))?;
+        writeln!(
+            text,
+            "size_allocated {}",
+            self.tiny.wrapping_add(self.small)
+        )?;
         Ok(text)
     }
 }
@@ -144,7 +158,11 @@ fn commands_of(alloc: Global, seed: u64, small: bool) -> Result<Vec<Asked>, Allo
 // How many bytes a drawn number asks for: at most 32,767, or at most 1,008, and mostly few.
 fn bytes_from(drawn: u64, small: bool) -> u64 {
     let number = drawn / 65_536;
-    let most = if small { number % 32_768 } else { number % 1_009 };
+    let most = if small {
+        number % 32_768
+    } else {
+        number % 1_009
+    };
     most >> (drawn / 4_096 % 12)
 }
 
@@ -226,7 +244,9 @@ fn check_trace<R: Threads + Wait + Sync + Abort>(
     let trace = trace_of(alloc, space, list)?;
     let (status, output) = outcome(rt, alloc, "run", trace.as_str())?;
     assert_eq!(rt; status, Status::Done);
-    let (records, tail) = str::from_utf8(&output)?.split_once("end\n").unwrap_or(("", ""));
+    let (records, tail) = str::from_utf8(&output)?
+        .split_once("end\n")
+        .unwrap_or(("", ""));
     let answers = answers(alloc, records)?;
     assert_eq!(rt; answers.len(), list.len());
     let mut plain = Plain {

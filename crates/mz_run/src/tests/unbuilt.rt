@@ -77,9 +77,18 @@ fn spaces_of_any_pages_magazines_and_nano(rt: HostRuntime) -> Result<(), Fail> {
     let alloc = rt.alloc();
     for (space, bytes) in [
         ("space 1 callers 1 magazines 1 nano 0 gen 1 zones 1\n", 0u64),
-        ("space 8 callers 1 magazines 1 nano 8 gen 1024 zones 1\n", 131_072),
-        ("space 65 callers 1 magazines 16 nano 1 gen 1024 zones 1\n", 16_384),
-        ("space 4096 callers 1 magazines 3 nano 1024 gen 68719476735 zones 1\n", 16_777_216),
+        (
+            "space 8 callers 1 magazines 1 nano 8 gen 1024 zones 1\n",
+            131_072,
+        ),
+        (
+            "space 65 callers 1 magazines 16 nano 1 gen 1024 zones 1\n",
+            16_384,
+        ),
+        (
+            "space 4096 callers 1 magazines 3 nano 1024 gen 68719476735 zones 1\n",
+            16_777_216,
+        ),
     ] {
         let trace = format!(in alloc; "mzone-trace 1\n{space}")?;
         let run = format!(in alloc;

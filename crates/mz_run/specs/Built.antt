@@ -1,6 +1,6 @@
--- What the program runs today: one caller, no nano, one zone, and the commands `malloc` of what regions serve, `free`, `fill`,
--- `show` and `link`. This project's own.
-use Rattle.std.specs.Prelude.{ℕ, ◌+◌, ◌==◌, ◌≡◌, Bool, true, false, nat_le, ◌&&◌, not, List, length, position, Option, Some, IsTrue, if◌then◌else◌}
+-- What the program runs today: one caller, one zone, and the commands `malloc`, `free`, `fill`, `show` and `link`. This
+-- project's own.
+use Rattle.std.specs.Prelude.{ℕ, ◌+◌, ◌==◌, ◌≡◌, Bool, true, false, ◌&&◌, not, List, length, position, Option, Some, IsTrue, if◌then◌else◌}
 use Rattle.std.specs.List.{list_all}
 use Rattle.std.specs.Option.{option_map}
 use Rattle.mz_base.specs.declared.profile.Profile.{Profile}
@@ -15,11 +15,11 @@ use Rattle.mz_trace.specs.Texts.{IsTraceText, lines_of}
 
 -- a space within the limits that has these numbers
 abbrev pub is_built_space : Profile → Bool
-is_built_space p = (p.callers == 1) && (p.nano == 0) && (p.zones == 1)
+is_built_space p = (p.callers == 1) && (p.zones == 1)
 
--- `malloc` of at most 32,768 bytes, `free`, `fill`, `show` and `link`
+-- `malloc`, `free`, `fill`, `show` and `link`
 abbrev pub is_built_command : Command → Bool
-is_built_command (Malloc name n) = nat_le n 32768
+is_built_command (Malloc name n) = true
 is_built_command (Free name) = true
 is_built_command (Fill name byte) = true
 is_built_command (Show name off count) = true

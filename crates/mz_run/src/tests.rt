@@ -10,6 +10,7 @@ mod calls;
 mod commands;
 mod generated;
 mod inputs;
+mod large;
 mod regions;
 mod unbuilt;
 

@@ -8,15 +8,23 @@ use std::sync::Wait;
 use std::test::Fail;
 use std::thread::Threads;
 
-// A space that has room for a small region and, where that is taken first, for a tiny one behind it. Each
-// has room for all that a trace asks.
-const SPACE: &str = "space 576 callers 1 magazines 3 nano 0 gen 1024 zones 1\n";
-const SPACE_BYTES: u64 = 9_437_184;
+// A space for a tiny region; and one for a small region and, where that is taken first, for a tiny one behind
+// it. A region has room for all that a trace asks.
+const FOR_TINY: &str = "space 64 callers 1 magazines 3 nano 0 gen 1024 zones 1\n";
+
+const FOR_BOTH: &str = "space 576 callers 1 magazines 3 nano 0 gen 1024 zones 1\n";
+
 const TINY_REGION: u64 = 1_048_576;
+
 const SMALL_REGION: u64 = 8_388_608;
 
+// How many traces there are, and each so many asks for small blocks too.
 const TRACES: u64 = 100;
+
+const SMALL_EACH: u64 = 5;
+
 const COMMANDS: u64 = 40;
+
 const NAMES: u64 = 16;
 
 // The largest block of tiny.
@@ -48,8 +56,13 @@ struct Plain {
 }
 
 impl Plain {
-    fn find(&self, name: u64) -> Option<usize> {
-        self.blocks.iter().position(|b| b.name == name)
+    fn holds(&self, name: u64) -> bool {
+        for block in self.blocks.as_slice() {
+            if block.name == name {
+                return true;
+            }
+        }
+        false
     }
 
     fn sum(&self) -> u64 {
@@ -62,9 +75,12 @@ impl Plain {
 
     // Whether the block meets none of those that are held.
     fn is_apart(&self, block: Held) -> bool {
-        self.blocks
-            .iter()
-            .all(|b| end_of(block) <= b.first || end_of(*b) <= block.first)
+        for other in self.blocks.as_slice() {
+            if block.first < end_of(*other) && other.first < end_of(block) {
+                return false;
+            }
+        }
+        true
     }
 
     fn add(&mut self, block: Held) -> Result<(), AllocError> {
@@ -83,13 +99,21 @@ impl Plain {
         let mut text = String::new(alloc);
         self.blocks.sort_unstable_by_key(|b| b.first);
         for block in self.blocks.as_slice() {
-            let range = if block.size > MOST_TINY { "small" } else { "tiny" };
+            let range = if block.size > MOST_TINY {
+                "small"
+            } else {
+                "tiny"
+            };
             writeln!(text, "block {} {} {range} default", block.first, block.size)?;
         }
         writeln!(text, "blocks_in_use {}", self.blocks.len())?;
         writeln!(text, "size_in_use {}", self.sum())?;
         writeln!(text, "max_size_in_use {}", self.greatest)?;
-        writeln!(text, "size_allocated {}", self.tiny.wrapping_add(self.small))?;
+        writeln!(
+            text,
+            "size_allocated {}",
+            self.tiny.wrapping_add(self.small)
+        )?;
         Ok(text)
     }
 }
@@ -109,30 +133,41 @@ fn drawn_after(number: u64) -> u64 {
     number.wrapping_mul(1_664_525).wrapping_add(1_013_904_223) % 4_294_967_296
 }
 
-// A request of small, and then three requests for two ends, of at most 32,767 bytes each.
-fn asked(alloc: Global, seed: u64) -> Result<Vec<Asked>, AllocError> {
+// A request for one byte more than tiny's largest block, or for that, and then three requests for two ends.
+fn commands_of(alloc: Global, seed: u64, small: bool) -> Result<Vec<Asked>, AllocError> {
     let mut list = Vec::new(alloc);
     let mut drawn = seed;
     list.push(Asked {
         name: NAMES,
-        bytes: Some(MOST_TINY + 1),
+        bytes: Some(if small { MOST_TINY + 1 } else { MOST_TINY }),
     })?;
     for _ in 0..COMMANDS {
         drawn = drawn_after(drawn);
         let name = drawn / 65_536 % NAMES;
         let is_request = drawn / 4_194_304 % 5 < 3;
         drawn = drawn_after(drawn);
-        let bytes = drawn / 65_536 % (1u64 << (4 + drawn / 4_096 % 12));
+        let bytes = Some(bytes_from(drawn, small));
         list.push(Asked {
             name,
-            bytes: if is_request { Some(bytes) } else { None },
+            bytes: if is_request { bytes } else { None },
         })?;
     }
     Ok(list)
 }
 
-fn trace_of(alloc: Global, list: &[Asked]) -> Result<String, AllocError> {
-    let mut trace = format!(in alloc; "mzone-trace 1\n{SPACE}round\n")?;
+// How many bytes a drawn number asks for: at most 32,767, or at most 1,008, and mostly few.
+fn bytes_from(drawn: u64, small: bool) -> u64 {
+    let number = drawn / 65_536;
+    let most = if small {
+        number % 32_768
+    } else {
+        number % 1_009
+    };
+    most >> (drawn / 4_096 % 12)
+}
+
+fn trace_of(alloc: Global, space: &str, list: &[Asked]) -> Result<String, AllocError> {
+    let mut trace = format!(in alloc; "mzone-trace 1\n{space}round\n")?;
     for asked in list {
         match asked.bytes {
             Some(bytes) => writeln!(trace, "0 malloc b{} {bytes}", asked.name)?,
@@ -165,12 +200,11 @@ fn block_of(name: u64, answer: &str) -> Option<Held> {
     Some(Held { name, first, size })
 }
 
-// A block for a request lies in the space, at a quantum of its range, and is apart from all that are held.
+// A block for a request lies at a quantum of its range, and is apart from all that are held.
 fn check_block<R: Abort>(rt: &R, plain: &Plain, bytes: u64, block: Held) {
     let quantum = if bytes > MOST_TINY { 512 } else { 16 };
     assert_eq!(rt; block.size, size_for(bytes));
     assert_eq!(rt; block.first % quantum, 0);
-    assert!(rt; end_of(block) <= SPACE_BYTES);
     assert!(rt; plain.is_apart(block));
 }
 
@@ -181,14 +215,14 @@ fn check_answer<R: Abort>(
     asked: Asked,
     answer: &str,
 ) -> Result<(), Fail> {
-    match (asked.bytes, plain.find(asked.name)) {
-        (Some(_bytes), Some(_index)) => assert_eq!(rt; answer, "held"),
-        (None, None) => assert_eq!(rt; answer, "not-held"),
-        (None, Some(index)) => {
+    match (asked.bytes, plain.holds(asked.name)) {
+        (Some(_bytes), true) => assert_eq!(rt; answer, "held"),
+        (None, false) => assert_eq!(rt; answer, "not-held"),
+        (None, true) => {
             assert_eq!(rt; answer, "ok");
-            let _ = plain.blocks.remove(index);
+            plain.blocks.retain(|block| block.name != asked.name);
         }
-        (Some(bytes), None) => {
+        (Some(bytes), false) => {
             let block = block_of(asked.name, answer);
             assert!(rt; block.is_some(), "{answer}");
             if let Some(block) = block {
@@ -204,12 +238,15 @@ fn check_answer<R: Abort>(
 fn check_trace<R: Threads + Wait + Sync + Abort>(
     rt: &R,
     alloc: Global,
+    space: &str,
     list: &[Asked],
 ) -> Result<(), Fail> {
-    let trace = trace_of(alloc, list)?;
+    let trace = trace_of(alloc, space, list)?;
     let (status, output) = outcome(rt, alloc, "run", trace.as_str())?;
     assert_eq!(rt; status, Status::Done);
-    let (records, tail) = str::from_utf8(&output)?.split_once("end\n").unwrap_or(("", ""));
+    let (records, tail) = str::from_utf8(&output)?
+        .split_once("end\n")
+        .unwrap_or(("", ""));
     let answers = answers(alloc, records)?;
     assert_eq!(rt; answers.len(), list.len());
     let mut plain = Plain {
@@ -229,8 +266,10 @@ fn check_trace<R: Threads + Wait + Sync + Abort>(
 fn generated_traces(rt: HostRuntime) -> Result<(), Fail> {
     let alloc = rt.alloc();
     for seed in 0..TRACES {
-        let list = asked(alloc, seed)?;
-        check_trace(&rt, alloc, list.as_slice())?;
+        let small = seed % SMALL_EACH == 0;
+        let list = commands_of(alloc, seed, small)?;
+        let space = if small { FOR_BOTH } else { FOR_TINY };
+        check_trace(&rt, alloc, space, list.as_slice())?;
     }
     Ok(())
 }

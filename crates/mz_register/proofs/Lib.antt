@@ -7,3 +7,6 @@ mod PassLemmas
 mod OpenLemmas
 mod WordLemmas
 mod FirstLemmas
+mod MergeLemmas
+mod CountLemmas
+mod JoinLemmas

@@ -8,7 +8,7 @@ ghost use Rattle.mz_desk.specs.Keys.{opened_as};
 ghost use Rattle.mz_register.specs.Opened.{IsOpened, IsNew, IsFirst, AreDealt, IsBlank, AreBlank};
 
 use crate::pass::Pass;
-use crate::register::Register;
+use crate::register::{Register, Rest};
 use atomic_table::{Refused, Table};
 use mz_book::{Book, Parts, PlainBook};
 use mz_desk::law::GiveSeat;
@@ -136,6 +136,14 @@ impl<V: Keep + Drop> Register<V> {
                     table,
                     opening,
                     keepers,
+                    rest: Rest {
+                        caller,
+                        classes,
+                        slots: lights,
+                        holds,
+                        founds,
+                        found,
+                    },
                 };
                 let first = Pass {
                     caller: 0,

@@ -1,0 +1,60 @@
+use Rattle.std.proofs.Common.{◌≡◌, ℕ, ◌+◌, ◌-◌, ◌<◌, ◌≤◌, List, ◌++◌, length, take, drop, arith, sym, ap, ◌∙◌, subst, length-append}
+use Rattle.std.specs.List.{All}
+use Rattle.mz_events.specs.declared.entry.Entry.{Entry}
+use Rattle.mz_book.specs.Owners.{BeginsWithin}
+use Rattle.mz_book.specs.Handed.{quanta_since}
+use Rattle.mz_register.specs.Merged.{IsMerge, CanWrite}
+use Rattle.mz_register.proofs.MergeLemmas.{can_merge, end_of}
+use Rattle.mz_register.proofs.hand_in.write.Goals as goal
+
+pub merge-requires : goal.merge-requires
+merge-requires g c =
+    let o = c.args.opening in
+    let r = c.requires.can in (
+      o.history.items ++ r.0,
+      can_merge o.history.items o.quanta.items r.0 c.lengthen.new.history.items c.args.records.now r.1 (let l = c.lengthen.ensures.len in let a = length-append o.history.items r.0 in let m = r.2 in omega (arith, c.lengthen.new.history.ok.0, o.history.ok.0)) c.lengthen.ensures.before,
+    )
+
+pub slice_bounds-own_all-count : goal.slice_bounds-own_all-count
+slice_bounds-own_all-count g c =
+    let o = c.args.opening in
+    let r = c.requires.can in
+    let mg = can_merge o.history.items o.quanta.items r.0 c.lengthen.new.history.items c.args.records.now r.1 (let l = c.lengthen.ensures.len in let a = length-append o.history.items r.0 in let m = r.2 in omega (arith, c.lengthen.new.history.ok.0, o.history.ok.0)) c.lengthen.ensures.before in
+    let e = c.deref.ensures.value ∙ c.merge.ensures.items (o.history.items ++ r.0) mg in
+    let n = ap length e in
+    let a = length-append o.history.items r.0 in
+    omega (arith, c.len-len.ensures, o.history.ok.0)
+
+pub slice_bounds-own_all-start : goal.slice_bounds-own_all-start
+slice_bounds-own_all-start g c =
+    let o = c.args.opening in
+    let r = c.requires.can in
+    let mg = can_merge o.history.items o.quanta.items r.0 c.lengthen.new.history.items c.args.records.now r.1 (let l = c.lengthen.ensures.len in let a = length-append o.history.items r.0 in let m = r.2 in omega (arith, c.lengthen.new.history.ok.0, o.history.ok.0)) c.lengthen.ensures.before in
+    let e = c.deref.ensures.value ∙ c.merge.ensures.items (o.history.items ++ r.0) mg in
+    let n = ap length e in
+    let a = length-append o.history.items r.0 in
+    let b : c.len-len.result ≤ length c.deref.result.now = omega (arith, c.len-len.ensures, o.history.ok.0) in
+    b
+
+pub own_all-requires-clause-within : goal.own_all-requires-clause-within
+own_all-requires-clause-within g c =
+    let o = c.args.opening in
+    let r = c.requires.can in
+    let mg = can_merge o.history.items o.quanta.items r.0 c.lengthen.new.history.items c.args.records.now r.1 (let l = c.lengthen.ensures.len in let a = length-append o.history.items r.0 in let m = r.2 in omega (arith, c.lengthen.new.history.ok.0, o.history.ok.0)) c.lengthen.ensures.before in
+    let e = c.deref.ensures.value ∙ c.merge.ensures.items (o.history.items ++ r.0) mg in
+    subst (All (λ (x : Entry). BeginsWithin o.quanta.items x.event)) (sym (end_of c.deref.result.now o.history.items r.0 c.len-len.result e (c.len-len.ensures ∙ o.history.ok.0))) r.1.within
+
+pub own_all-requires-clause-callers : goal.own_all-requires-clause-callers
+own_all-requires-clause-callers g c =
+    let o = c.args.opening in
+    let r = c.requires.can in
+    let mg = can_merge o.history.items o.quanta.items r.0 c.lengthen.new.history.items c.args.records.now r.1 (let l = c.lengthen.ensures.len in let a = length-append o.history.items r.0 in let m = r.2 in omega (arith, c.lengthen.new.history.ok.0, o.history.ok.0)) c.lengthen.ensures.before in
+    let e = c.deref.ensures.value ∙ c.merge.ensures.items (o.history.items ++ r.0) mg in
+    subst (All (λ (x : Entry). x.caller < 256)) (sym (end_of c.deref.result.now o.history.items r.0 c.len-len.result e (c.len-len.ensures ∙ o.history.ok.0))) r.1.callers
+
+pub returns-clause-written : goal.returns-clause-written
+returns-clause-written g c later can m =
+    let o = c.args.opening in
+    let mg = can_merge o.history.items o.quanta.items later c.lengthen.new.history.items c.args.records.now can (let l = c.lengthen.ensures.len in let a = length-append o.history.items later in omega (arith, c.lengthen.new.history.ok.0, o.history.ok.0)) c.lengthen.ensures.before in
+    let items = c.merge.ensures.items (o.history.items ++ later) mg in
+    (items, c.own_all.ensures.items ∙ ap (quanta_since o.quanta.items) (end_of c.deref.result.now o.history.items later c.len-len.result (c.deref.ensures.value ∙ items) (c.len-len.ensures ∙ o.history.ok.0)))

@@ -1,6 +1,6 @@
 -- Seat 0 after it took in others, one after another.
-use Rattle.std.proofs.Common.{◌≡◌, ◌≢◌, ℕ, ◌==◌, Bool, true, false, cond, List, [], ◌∷◌, ◌++◌, length, map, refl, sym, ap, ◌∙◌, subst, eq-eqb, ne_eqb, zero, suc, Some}
-use Rattle.std.specs.Prelude.{◌||◌, slice_get, filter}
+use Rattle.std.proofs.Common.{◌≡◌, ◌≢◌, ℕ, ◌==◌, Bool, true, false, cond, List, [], ◌∷◌, ◌++◌, length, map, reverse, arith, refl, sym, ap, ◌∙◌, subst, eq-eqb, ne_eqb, inl, inr, zero, suc, Some}
+use Rattle.std.specs.Prelude.{◌||◌, ◌+◌, slice_get}
 use Rattle.std.specs.List.{All, list_any}
 use Rattle.std.proofs.lemmas.Bool.{cases_Bool}
 use Rattle.std.proofs.lemmas.List.Elements.{All-head, All-tail}
@@ -12,10 +12,16 @@ use Rattle.mz_book.specs.Pairs.{block_of, hand_among}
 use Rattle.mz_desk.specs.declared.view.TakenIn.{TakenIn}
 use Rattle.mz_desk.specs.declared.view.View.{View}
 use Rattle.mz_desk.specs.Views.{took_in}
-use Rattle.mz_desk.specs.Seats.{joined_view}
+use Rattle.mz_desk.specs.Seats.{joined_view, CanTakeIn}
 use Rattle.mz_desk.specs.Ending.{part_of}
-use Rattle.mz_register.specs.HandIn.{joined_through}
+use Rattle.atomic_table.specs.Seated.{TableId}
+use Rattle.mz_register.specs.declared.pass.Pass.{Pass}
+use Rattle.mz_register.specs.Passes.{keys}
+use Rattle.mz_register.specs.Accounts.{pass_account}
+use Rattle.mz_register.specs.HandIn.{joined_through, IsIdleOf}
 use Rattle.mz_register.proofs.MergeLemmas.{some_is}
+use Rattle.mz_register.proofs.PassLemmas.{same_table}
+use Rattle.mz_register.proofs.Rests.{none_of as none_of_length}
 
 pub joined_snoc : (v : View) (ws : List View) (w : View) → joined_through v (ws ++ w ∷ []) ≡ joined_view (joined_through v ws) w
 joined_snoc v [] w = refl
@@ -85,3 +91,42 @@ hand_first c v [] f = refl
 hand_first c v (w ∷ ws) f =
     let h = f 0 w refl in
     hand_first c (joined_view v w) ws (λ i u e. f (suc i) u e) ∙ hand_beside c w.caller v.pairs w.pairs h.1 h.0
+
+-- passes that hold nothing
+
+keys_none : {A : Type 0} (xs : List (ℕ × A)) → keys xs ≡ [] → xs ≡ []
+keys_none [] e = refl
+keys_none (x ∷ xs) e = absurd (cc)
+
+pub map_append : {A : Type 0} {B : Type 0} (f : A → B) (xs ys : List A) → map f (xs ++ ys) ≡ map f xs ++ map f ys
+map_append f [] ys = refl
+map_append f (x ∷ xs) ys = ap (λ zs. f x ∷ zs) (map_append f xs ys)
+
+pub at_next : {A : Type 0} (x : A) (xs ys : List A) (y : A) → slice_get (x ∷ (xs ++ y ∷ ys)) (length xs + 1) ≡ Some y
+at_next x [] ys y = refl
+at_next x (z ∷ zs) ys y = let n : length (z ∷ zs) + 1 ≡ suc (length zs + 1) = omega arith in ap (slice_get (x ∷ z ∷ (zs ++ y ∷ ys))) n ∙ at_next z zs ys y
+
+module _ {V : Type 0} (z : TableId) (p : Profile) (c : ℕ) (x : Pass V) (idle : IsIdleOf z p c (pass_account x)) where
+  pub its_table : x.seat.table_id ≡ z
+  its_table = same_table x.seat.table_id z idle.of.name
+
+  pub its_held : x.held.items ≡ []
+  its_held = sym x.rested.held_is ∙ idle.idle.keepers
+
+  pub bare_handed : x.seat.me.1 ≡ []
+  bare_handed = keys_none x.seat.me.1 (x.carried ∙ ap reverse its_held)
+
+  pub its_caller : x.seat.me.0.caller ≡ c
+  its_caller = idle.caller
+
+  -- it can be taken in
+  pub can_take : (v : View) → v.live ≡ true → v.caller ≡ 0 → CanTakeIn v x.seat.me.0
+  can_take v live first = record {
+    live = live;
+    first = first;
+    other_live = x.rested.live;
+    no_keeper = idle.idle.keepers;
+    none_taking = none_of_length x.seat.me.0.taking x.rested.none_taking;
+    no_light = idle.idle.lights;
+    none_joined = none_of_length x.seat.me.0.joined x.rested.none_joined;
+  }

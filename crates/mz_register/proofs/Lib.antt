@@ -10,3 +10,4 @@ mod FirstLemmas
 mod MergeLemmas
 mod CountLemmas
 mod JoinLemmas
+mod HandInLemmas

@@ -46,19 +46,17 @@ fn close<V: Keep + Drop>(
 }
 
 // Puts the entries of all records at the end of the history, by ticket, and makes each block that they make its caller's.
-fn write<V>(opening: Opening<V>, records: &[Vec<Entry>], more: usize) -> Opening<V>
-    requires room { length opening.history.items + more ≤ vec_capacity opening.history }
-    requires can { (later : List entry) × CanWrite opening.history.items opening.quanta.items later records.now × (length later ≡ more) }
-    ensures written { (later : List entry) → CanWrite opening.history.items opening.quanta.items later records.now → length later ≡ more → (result.history.items ≡ opening.history.items ++ later) × (result.quanta.items ≡ quanta_since opening.quanta.items later) }
-    ensures capacity { vec_capacity result.history ≡ vec_capacity opening.history }
-    ensures same { (result.profile ≡ opening.profile) × (result.site ≡ opening.site) }
+fn write(history: &mut Vec<Entry>, quanta: &mut Vec<u8>, records: &[Vec<Entry>], more: usize)
+    requires room { length history.old.items + more ≤ vec_capacity history.old }
+    requires can { (later : List entry) × CanWrite history.old.items quanta.old.items later records.now × (length later ≡ more) }
+    ensures written { (later : List entry) → CanWrite history.old.items quanta.old.items later records.now → length later ≡ more → (history.new.items ≡ history.old.items ++ later) × (quanta.new.items ≡ quanta_since quanta.old.items later) }
+    ensures capacity { vec_capacity history.new ≡ vec_capacity history.old }
+    ensures len { vec_len quanta.new ≡ vec_len quanta.old }
 {
-    let mut opening = opening;
-    let len = opening.history.len();
-    lengthen(&mut opening.history, more);
-    merge(&mut opening.history, records);
-    own_all(&mut opening.quanta, &opening.history[len..]);
-    opening
+    let len = history.len();
+    lengthen(history, more);
+    merge(history, records);
+    own_all(quanta, &history[len..]);
 }
 
 // A row of words becomes the table's, from the word `from` on.
@@ -144,10 +142,11 @@ impl<V: Keep + Drop> Register<V> {
         let closed = close(table, seat);
         let Opening {
             profile,
-            history,
-            quanta,
+            mut history,
+            mut quanta,
             site,
-        } = write(opening, records.as_slice(), more);
+        } = opening;
+        write(&mut history, &mut quanta, records.as_slice(), more);
         let Rest {
             caller,
             mut classes,

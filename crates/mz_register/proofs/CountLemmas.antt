@@ -11,12 +11,12 @@ use Rattle.mz_register.specs.declared.pass.Pass.{Pass}
 use Rattle.mz_register.specs.Merged.{count_noted}
 
 -- how many of these entries n callers have, from k on
-own_from : ℕ → ℕ → List Entry → ℕ
+abbrev own_from : ℕ → ℕ → List Entry → ℕ
 own_from k zero es = 0
 own_from k (suc n) es = length (own k es) + own_from (k + 1) n es
 
 -- one where c is one of them
-hits : ℕ → ℕ → ℕ → ℕ
+abbrev hits : ℕ → ℕ → ℕ → ℕ
 hits k zero c = 0
 hits k (suc n) c = one_for (c == k) + hits (k + 1) n c
 
@@ -36,7 +36,7 @@ own_case e es true = omega arith
 own_case e es false = omega arith
 
 next_from : (k n : ℕ) (e : Entry) (es : List Entry) → own_from k n (e ∷ es) ≡ hits k n e.caller + own_from k n es
-next_from k zero e es = refl
+next_from k zero e es = omega arith
 next_from k (suc n) e es =
     let a : length (own k (e ∷ es)) ≡ one_for (e.caller == k) + length (own k es) = own_case e (own k es) (e.caller == k) in
     let r = next_from (k + 1) n e es in
@@ -44,7 +44,7 @@ next_from k (suc n) e es =
 
 none_from : (k n : ℕ) → own_from k n [] ≡ 0
 none_from k zero = refl
-none_from k (suc n) = none_from (k + 1) n
+none_from k (suc n) = let r = none_from (k + 1) n in omega arith
 
 all_from : (n : ℕ) (es : List Entry) → All (λ e. e.caller < n) es → own_from 0 n es ≡ length es
 all_from n [] h = none_from 0 n

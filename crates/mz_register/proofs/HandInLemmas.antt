@@ -27,7 +27,7 @@ use Rattle.mz_register.proofs.MergeLemmas.{some_is, at_map, of_map}
 use Rattle.mz_register.proofs.JoinLemmas.{like, took, each_part, hand_first}
 
 -- there is one at each index below the length
-there : {A : Type 0} (xs : List A) (i : ℕ) → i < length xs → (x : A) × (slice_get xs i ≡ Some x)
+pub there : {A : Type 0} (xs : List A) (i : ℕ) → i < length xs → (x : A) × (slice_get xs i ≡ Some x)
 there [] i l = absurd (omega arith)
 there (x ∷ xs) zero l = (x, refl)
 there (x ∷ xs) (suc i) l = there xs i (omega arith)

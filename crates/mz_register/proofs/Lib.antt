@@ -11,3 +11,6 @@ mod MergeLemmas
 mod CountLemmas
 mod JoinLemmas
 mod HandInLemmas
+mod WriteLemmas
+mod FitLemmas
+mod AtEnd

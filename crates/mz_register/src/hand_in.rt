@@ -78,7 +78,8 @@ fn take_keepers<V: Drop>(
 ) -> Vec<Option<V>>
     requires full { IsFull closed.slots }
     requires room { (keepers.items ≡ []) × (slots_len closed.slots ≤ vec_capacity keepers) }
-    ensures { result.items ≡ slots_items closed.slots }
+    ensures items { result.items ≡ slots_items closed.slots }
+    ensures len { vec_len result ≡ slots_len closed.slots }
 {
     let mut closed = closed;
     let mut keepers = keepers;

@@ -1,4 +1,4 @@
-use Rattle.std.proofs.Common.{◌≡◌, ◌≢◌, ℕ, ◌+◌, ◌<◌, ◌≤◌, Bool, true, false, List, [], ◌∷◌, ◌++◌, length, get_or, set, take, Option, arith, refl, sym, ap, ◌∙◌, ⊎_elim, zero, suc}
+use Rattle.std.proofs.Common.{◌≡◌, ◌≢◌, ℕ, ◌+◌, ◌<◌, ◌≤◌, Bool, true, false, List, [], ◌∷◌, ◌++◌, length, get_or, set, take, Option, arith, refl, sym, ap, ◌∙◌, ⊎_elim, length-append, zero, suc}
 use Rattle.std.proofs.lemmas.Bool.{cases_eq}
 use Rattle.std.proofs.lemmas.List.{get_or-set_same, get_or-set_other}
 use mathlib.Core.Option.{some, some-injective, some-ne-none}
@@ -35,5 +35,6 @@ loop-k-preserved g c =
           (cases_eq i k);
       left = λ i ge lt. ap (λ (xs : List Bool). get_or xs i false) o.1 ∙ (cleared fs k i (λ y. omega arith) ∙ inv.left i (omega arith) (let a = o.2 in omega arith));
       keepers = c.push_reserved.ensures.items ∙ (ap (λ (ks : List (Option g.row.V.Denot)). ks ++ c.take.result ∷ []) inv.keepers ∙ sym (take_more (slots_items c.args.closed.slots) k c.take.result (ap (λ (xs : List (Option g.row.V.Denot)). get_elem? xs k) (sym inv.items) ∙ c.take.ensures.value)));
+      pushed = let a = inv.pushed in let n = ap length c.push_reserved.ensures.items in let l = length-append c.loop-k.keepers.items (c.take.result ∷ []) in omega arith;
       capacity = c.push_reserved.ensures.capacity ∙ inv.capacity;
     }

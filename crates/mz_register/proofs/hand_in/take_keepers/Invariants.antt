@@ -10,5 +10,6 @@ invariant-loop-k g l = record {
   taken : (i : ℕ) → i < l.k → get_or (slots_filled l.closed.slots) i false ≡ false;
   left : (i : ℕ) → l.k ≤ i → i < slots_len l.closed.slots → get_or (slots_filled l.closed.slots) i false ≡ true;
   keepers : l.keepers.items ≡ take l.k (slots_items l.initial.closed.slots);
+  pushed : length l.keepers.items ≡ l.k;
   capacity : vec_capacity l.keepers ≡ vec_capacity l.initial.keepers;
 }

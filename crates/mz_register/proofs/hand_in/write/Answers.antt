@@ -64,3 +64,16 @@ returns-clause-written c later can m =
     let mg = can_merge before.items quanta later c.lengthen.new.history.items c.args.records.now can (let l = c.lengthen.ensures.len in let a = length-append before.items later in omega (arith, c.lengthen.new.history.ok.0, before.ok.0)) c.lengthen.ensures.before in
     let items = c.merge.ensures.items (before.items ++ later) mg in
     (items, c.own_all.ensures.items ∙ ap (quanta_since quanta) (end_of c.deref.result.now before.items later c.len-len.result (c.deref.ensures.value ∙ items) (c.len-len.ensures ∙ before.ok.0)))
+
+pub offset_bounds-deref-len : goal.offset_bounds-deref-len
+offset_bounds-deref-len c =
+    let before = c.args.history.now in
+    let quanta = c.args.quanta.now.items in
+    let r = c.requires.can in
+    let mg = can_merge before.items quanta r.0 c.lengthen.new.history.items c.args.records.now r.1 (let l = c.lengthen.ensures.len in let a = length-append before.items r.0 in let m = r.2 in omega (arith, c.lengthen.new.history.ok.0, before.ok.0)) c.lengthen.ensures.before in
+    let e = c.deref.ensures.value ∙ c.merge.ensures.items (before.items ++ r.0) mg in
+    let n = ap length e in
+    let a = length-append before.items r.0 in
+    let t = c.deref.type_inv.1 in
+    let l = c.len-len.ensures ∙ before.ok.0 in
+    omega arith

@@ -1,5 +1,5 @@
 -- What the table tells once it is closed, in terms of what the register still has.
-use Rattle.std.proofs.Common.{◌≡◌, List, Option, Vec, ℕ, subst}
+use Rattle.std.proofs.Common.{List, Option, Vec, ℕ, subst}
 use Rattle.std.specs.declared.alloc.Global.{Global}
 use Rattle.core.specs.Mem.Slots.{slots_items}
 use Rattle.atomic_table.specs.declared.owned.Closed.{Closed}

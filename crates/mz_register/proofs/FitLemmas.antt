@@ -1,6 +1,6 @@
 -- The parts of the plain book that passes are handed into.
 use Rattle.std.proofs.Common.{◌≡◌, ℕ, ◌+◌, ◌-◌, ◌*◌, ◌/◌, ◌%◌, ◌^◌, ◌<◌, ◌≤◌, Bool, true, false, List, [], ◌∷◌, ◌++◌, length, get_or, Option, Some, None, is_none, refl, sym, ap, ◌∙◌, subst, arith, zero, suc}
-use Rattle.std.specs.Prelude.{slice_get, nat_le, nat_lt}
+use Rattle.std.specs.Prelude.{nat_le, nat_lt}
 use Rattle.std.specs.List.{list_all}
 use Rattle.std.specs.Coded.{Coded-set, coded_ℕ, coded_list}
 use Rattle.std.specs.Vec.{vec_capacity}
@@ -17,22 +17,18 @@ use Rattle.mz_events.specs.declared.entry.Entry.{Entry}
 use Rattle.mz_events.specs.State.{State, opening, value_at}
 use Rattle.mz_events.specs.Changes.{one_for}
 use Rattle.mz_events.specs.History.{AreLawful, after_all}
-use Rattle.mz_events.specs.Hands.{own}
 use Rattle.mz_events.specs.Standing.{Keeping, Stands}
-use Rattle.mz_book.specs.declared.light.Light.{Light}
-use Rattle.mz_book.specs.declared.pair.Pair.{Pair}
 use Rattle.mz_book.specs.declared.parts.Parts.{Parts}
 use Rattle.mz_book.specs.Keepers.{keeper_count, keeper_spot, place_at}
-use Rattle.mz_book.specs.Lights.{slot_size, light_at, lights_from, is_slot_live}
+use Rattle.mz_book.specs.Lights.{slot_size, lights_from, is_slot_live}
 use Rattle.mz_book.specs.Owners.{pairs_told}
 use Rattle.mz_book.specs.Handed.{quanta_since, GoesOn}
-use Rattle.mz_book.specs.Parts.{site_in, state_in, FitTogether}
+use Rattle.mz_book.specs.Parts.{site_in, FitTogether}
 use Rattle.mz_book.specs.Plain.{site_of}
 use Rattle.mz_book.specs.Rule.{IsThere, AreInOneHand, AreHome, AreOfClass}
 use Rattle.mz_desk.specs.declared.view.SpaceName.{SpaceName}
 use Rattle.mz_desk.specs.declared.view.Opening.{Opening}
 use Rattle.mz_desk.specs.declared.view.View.{View}
-use Rattle.mz_desk.specs.Words.{class_place, slot_place}
 use Rattle.mz_desk.specs.Keys.{opened_as, space_name}
 use Rattle.mz_desk.specs.Views.{Opened}
 use Rattle.mz_desk.specs.Rule.{Homes}
@@ -60,21 +56,31 @@ all_small : (xs : List ℕ) → ((i : ℕ) → i < length xs → get_or xs i 0 �
 all_small [] f = refl
 all_small (x ∷ xs) f = and_from (nat_le x 16) (list_all (λ c. nat_le c 16) xs) (let l = f 0 (omega arith) in grind (arith, nat_tests, l)) (all_small xs (λ i l. f (suc i) (omega arith)))
 
-pub none_lit : (i : ℕ) (ws : List ℕ) → ((k : ℕ) → k < length ws → get_or ws k 0 < 2) → lights_from i ws ≡ []
+none_lit : (i : ℕ) (ws : List ℕ) → ((k : ℕ) → k < length ws → get_or ws k 0 < 2) → lights_from i ws ≡ []
 none_lit i [] f = refl
 none_lit i (w ∷ ws) f =
     let l : w < 2 = f 0 (omega arith) in
     let t : nat_lt w 2 ≡ true = grind (arith, nat_tests, l) in
     rw t (none_lit (i + 1) ws (λ k h. f (suc k) (omega arith)))
 
+one_small : (b : Bool) → one_for b < 2
+one_small true = omega arith
+one_small false = omega arith
+
+-- where each slot's word says whether its pair is live, no light is held
+pub none_lit_apart : (nano : ℕ) (ws : List ℕ) (live : ℕ → ℕ → Bool) → length ws ≡ nano * 1024 → ((b j : ℕ) → b < nano → j < 1024 → get_or ws (b * 1024 + j) 0 ≡ one_for (live b j)) → lights_from 0 ws ≡ []
+none_lit_apart nano ws live n f = none_lit 0 ws (λ k l.
+    let lb : k / 1024 < nano = omega arith in
+    let lj : k % 1024 < 1024 = omega arith in
+    let is : k / 1024 * 1024 + k % 1024 ≡ k = omega arith in
+    let w : get_or ws k 0 ≡ one_for (live (k / 1024) (k % 1024)) = ap (λ (i : ℕ). get_or ws i 0) (sym is) ∙ f (k / 1024) (k % 1024) lb lj in
+    let s = one_small (live (k / 1024) (k % 1024)) in
+    omega arith)
+
 read_home : {A : Type 0} (xs : List (Option A)) (k : ℕ) (x : A) → get_elem? xs k ≡ m.some (Some x) → get_or xs k None ≡ Some x
 read_home [] k x e = absurd (some-ne-none (Some x) (sym e))
 read_home (y ∷ ys) zero x e = some-injective y (Some x) e
 read_home (y ∷ ys) (suc k) x e = read_home ys k x e
-
-one_small : (b : Bool) → one_for b < 2
-one_small true = omega arith
-one_small false = omega arith
 
 module _ {V : Type 0} (keeping : V → Keeping) (x : Parts V) (before : List Entry) (quanta : List ℕ) (v : View) (words : List ℕ) (homes : Homes V) where
   -- what the table of the register was told
@@ -113,24 +119,11 @@ module _ {V : Type 0} (keeping : V → Keeping) (x : Parts V) (before : List Ent
       pub slots : (i : ℕ) → i < p.nano * 1024 → get_or x.slots.items i 0 ≡ get_or words (keeper_count p + 1 + p.nano + i) 0
 
     module _ (c : Comes) where
-      slot_in : (b j : ℕ) → b < p.nano → j < 1024 → b * 1024 + j < p.nano * 1024
-      slot_in b j lb lj = omega arith
-
       slot_word : (b j : ℕ) → b < p.nano → j < 1024 → get_or x.slots.items (b * 1024 + j) 0 ≡ one_for (is_slot_live p st b j)
-      slot_word b j lb lj = c.slots (b * 1024 + j) (slot_in b j lb lj) ∙ e.lights b j lb lj
-
-      few_word : (k : ℕ) → k < length x.slots.items → get_or x.slots.items k 0 < 2
-      few_word k l =
-          let n = c.slot_count in
-          let lb : k / 1024 < p.nano = omega arith in
-          let lj : k % 1024 < 1024 = omega arith in
-          let is : k / 1024 * 1024 + k % 1024 ≡ k = omega arith in
-          let w : get_or x.slots.items k 0 ≡ one_for (is_slot_live p st (k / 1024) (k % 1024)) = ap (λ (i : ℕ). get_or x.slots.items i 0) (sym is) ∙ slot_word (k / 1024) (k % 1024) lb lj in
-          let s = one_small (is_slot_live p st (k / 1024) (k % 1024)) in
-          omega arith
+      slot_word b j lb lj = c.slots (b * 1024 + j) (omega arith) ∙ e.lights b j lb lj
 
       pub none_held : lights_from 0 x.slots.items ≡ []
-      none_held = none_lit 0 x.slots.items few_word
+      none_held = none_lit_apart p.nano x.slots.items (λ b j. is_slot_live p st b j) c.slot_count slot_word
 
       home : AreHome keeping (site_in keeping x) p st [] x.keepers.items
       home k l =

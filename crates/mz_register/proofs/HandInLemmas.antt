@@ -1,10 +1,8 @@
 -- What all passes tell when they come in.
-use Rattle.std.proofs.Common.{◌≡◌, ◌≢◌, ℕ, ◌+◌, ◌*◌, ◌/◌, ◌%◌, ◌<◌, ◌≤◌, ◌==◌, Bool, true, false, cond, List, [], ◌∷◌, ◌++◌, length, map, get_or, Option, Some, None, is_none, Vec, refl, sym, ap, ◌∙◌, subst, arith, eq-eqb, inl, inr, ⊎_elim, zero, suc}
+use Rattle.std.proofs.Common.{◌≡◌, ℕ, ◌<◌, ◌≤◌, true, List, [], ◌∷◌, ◌++◌, length, Option, Some, Vec, refl, sym, ap, ◌∙◌, subst, arith, zero, suc}
 use Rattle.std.specs.Prelude.{slice_get}
 use Rattle.std.specs.List.{All}
 use Rattle.std.specs.declared.alloc.Global.{Global}
-use Rattle.std.proofs.lemmas.Bool.{false≢true}
-use Rattle.std.proofs.lemmas.List.Elements.{All-head, All-tail, All-weaker}
 use Rattle.atomic_table.specs.Seated.{TableId}
 use Rattle.atomic_table.specs.declared.shared.Seat.{Seat}
 use Rattle.mz_base.specs.declared.profile.Profile.{Profile}
@@ -17,10 +15,9 @@ use Rattle.mz_desk.specs.declared.view.TakenIn.{TakenIn}
 use Rattle.mz_desk.specs.declared.view.View.{View}
 use Rattle.mz_desk.specs.Views.{Opened, took_in}
 use Rattle.mz_desk.specs.Rule.{Homes, all_of}
-use Rattle.mz_desk.specs.Ending.{TookAll, IsPartOf, part_of, Ended}
+use Rattle.mz_desk.specs.Ending.{TookAll, IsPartOf, Ended}
 use Rattle.mz_register.specs.declared.pass.Pass.{Pass}
 use Rattle.mz_register.specs.Accounts.{pass_account}
-use Rattle.mz_register.specs.Merged.{IsNoted}
 use Rattle.mz_register.specs.HandIn.{AreAll, AreIn, IsIdleOf, joined_through, views_of}
 use Rattle.mz_register.proofs.Rests.{none_of}
 use Rattle.mz_register.proofs.MergeLemmas.{some_is, at_map, of_map}

@@ -1,12 +1,10 @@
 -- Seat 0 after it took in others, one after another.
-use Rattle.std.proofs.Common.{◌≡◌, ◌≢◌, ℕ, ◌==◌, Bool, true, false, cond, List, [], ◌∷◌, ◌++◌, length, map, reverse, arith, refl, sym, ap, ◌∙◌, subst, eq-eqb, ne_eqb, inl, inr, zero, suc, Some}
+use Rattle.std.proofs.Common.{◌≡◌, ◌≢◌, ℕ, ◌==◌, Bool, true, false, List, [], ◌∷◌, ◌++◌, length, map, reverse, arith, refl, sym, ap, ◌∙◌, subst, eq-eqb, ne_eqb, inl, inr, zero, suc, Some}
 use Rattle.std.specs.Prelude.{◌||◌, ◌+◌, slice_get}
-use Rattle.std.specs.List.{All, list_any}
+use Rattle.std.specs.List.{All}
 use Rattle.std.proofs.lemmas.Bool.{cases_Bool}
 use Rattle.std.proofs.lemmas.List.Elements.{All-head, All-tail}
 use Rattle.mz_base.specs.declared.profile.Profile.{Profile}
-use Rattle.mz_events.specs.declared.entry.Entry.{Entry}
-use Rattle.mz_book.specs.declared.light.Light.{Light}
 use Rattle.mz_book.specs.declared.pair.Pair.{Pair}
 use Rattle.mz_book.specs.Pairs.{block_of, hand_among}
 use Rattle.mz_desk.specs.declared.view.TakenIn.{TakenIn}

@@ -1,19 +1,17 @@
 -- What came since the opening can be written behind the former history.
-use Rattle.std.proofs.Common.{◌≡◌, ℕ, ◌+◌, ◌*◌, ◌<◌, ◌≤◌, ◌==◌, Bool, true, false, cond, List, [], ◌∷◌, ◌++◌, length, map, get_or, Some, Vec, refl, sym, ap, ◌∙◌, subst, arith, eq-eqb, zero, suc}
+use Rattle.std.proofs.Common.{◌≡◌, ℕ, ◌+◌, ◌<◌, ◌==◌, Bool, true, false, cond, List, [], ◌∷◌, ◌++◌, length, map, Some, Vec, sym, ap, ◌∙◌, subst, arith, eq-eqb, zero, suc}
 use Rattle.std.specs.Prelude.{slice_get}
 use Rattle.std.specs.List.{All}
 use Rattle.std.specs.declared.alloc.Global.{Global}
-use Rattle.std.proofs.lemmas.Option.{slice_get_within}
 use Rattle.std.proofs.lemmas.List.Elements.{All-head, All-tail, All-weaker}
 use Rattle.mz_base.specs.declared.profile.Profile.{Profile}
 use Rattle.mz_base.specs.Limits.{IsWithinLimits}
 use Rattle.mz_events.specs.declared.entry.Entry.{Entry}
-use Rattle.mz_events.specs.State.{State, opening}
-use Rattle.mz_events.specs.History.{AreLawful}
+use Rattle.mz_events.specs.State.{opening}
 use Rattle.mz_events.specs.Hands.{own}
 use Rattle.mz_book.specs.Handed.{GoesOn}
 use Rattle.mz_register.specs.declared.pass.Pass.{Pass}
-use Rattle.mz_register.specs.Merged.{IsNoted, CanWrite}
+use Rattle.mz_register.specs.Merged.{CanWrite}
 use Rattle.mz_register.proofs.MergeLemmas.{some_is, at_map, of_map}
 use Rattle.mz_register.proofs.HandInLemmas.{there}
 

@@ -48,6 +48,10 @@ former keeping r = record {
   found = r.rest.found;
 }
 
+-- the account of a book while nothing more can be noted in it
+abbrev pub unspared : Account → Account
+unspared s = record s { spare = 0 }
+
 -- the account of a pass of caller c, which holds nothing
 pub record IsIdleOf (z : TableId) (p : Profile) (c : ℕ) (s : Account) : Type 0 where
   pub of : IsOf z p s

@@ -132,7 +132,10 @@ impl<V: Keep + Drop> Register<V> {
         of_histories();
         owners_after_entries();
         tickets_are_indices();
-        let Room { keepers: home, records } = room;
+        let Room {
+            keepers: home,
+            records,
+        } = room;
         let (seat, records, held) = self.join_all(passes, records);
         let Register {
             table,

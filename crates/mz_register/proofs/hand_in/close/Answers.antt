@@ -1,5 +1,4 @@
 use Rattle.std.proofs.Common.{ℕ, List, subst}
-use Rattle.core.specs.Mem.Slots.{slots_items}
 use Rattle.mz_desk.specs.Keys.{opened_as}
 use Rattle.mz_desk.specs.Ending.{Ended}
 use Rattle.mz_register.proofs.hand_in.close.Goals as goal

@@ -1,9 +1,9 @@
-use Rattle.std.proofs.Common.{◌≡◌, ◌≢◌, ℕ, ◌+◌, ◌<◌, ◌≤◌, Bool, true, false, List, [], ◌∷◌, ◌++◌, length, get_or, set, take, Option, arith, refl, sym, ap, ◌∙◌, ⊎_elim, length-append, zero, suc}
+use Rattle.std.proofs.Common.{◌≡◌, ℕ, ◌+◌, Bool, false, List, [], ◌∷◌, ◌++◌, length, get_or, set, take, Option, arith, refl, sym, ap, ◌∙◌, ⊎_elim, length-append, zero, suc}
 use Rattle.std.proofs.lemmas.Bool.{cases_eq}
-use Rattle.std.proofs.lemmas.List.{get_or-set_same, get_or-set_other}
+use Rattle.std.proofs.lemmas.List.{get_or-set_other}
 use mathlib.Core.Option.{some, some-injective, some-ne-none}
 use lib.ListN.{get_elem?}
-use Rattle.core.specs.Mem.Slots.{slots_items, slots_len, slots_filled}
+use Rattle.core.specs.Mem.Slots.{slots_items, slots_filled}
 use Rattle.mz_register.proofs.hand_in.take_keepers.Goals as goal
 
 -- one more of them

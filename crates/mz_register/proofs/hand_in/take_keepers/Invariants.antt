@@ -1,4 +1,4 @@
-use Rattle.std.proofs.Common.{◌≡◌, ℕ, ◌≤◌, ◌<◌, Bool, true, false, length, get_or, take}
+use Rattle.std.proofs.Common.{◌≡◌, ℕ, ◌≤◌, ◌<◌, true, false, length, get_or, take}
 use Rattle.std.specs.Vec.{vec_capacity}
 use Rattle.core.specs.Mem.Slots.{slots_items, slots_len, slots_filled}
 use Rattle.mz_register.proofs.hand_in.take_keepers.Given as goal

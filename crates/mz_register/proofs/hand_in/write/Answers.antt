@@ -1,9 +1,8 @@
-use Rattle.std.proofs.Common.{◌≡◌, ℕ, ◌+◌, ◌-◌, ◌<◌, ◌≤◌, List, ◌++◌, length, take, drop, arith, sym, ap, ◌∙◌, subst, length-append}
+use Rattle.std.proofs.Common.{◌<◌, ◌≤◌, ◌++◌, length, arith, sym, ap, ◌∙◌, subst, length-append}
 use Rattle.std.specs.List.{All}
 use Rattle.mz_events.specs.declared.entry.Entry.{Entry}
 use Rattle.mz_book.specs.Owners.{BeginsWithin}
 use Rattle.mz_book.specs.Handed.{quanta_since}
-use Rattle.mz_register.specs.Merged.{IsMerge, CanWrite}
 use Rattle.mz_register.proofs.MergeLemmas.{can_merge, end_of}
 use Rattle.mz_register.proofs.hand_in.write.Goals as goal
 

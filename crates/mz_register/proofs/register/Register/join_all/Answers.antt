@@ -1,4 +1,4 @@
-use Rattle.std.proofs.Common.{◌≡◌, ℕ, ◌+◌, ◌<◌, List, [], ◌∷◌, ◌++◌, length, map, Vec, Some, arith, refl, sym, ap, ◌∙◌, subst, append-nil, append_assoc, length-append}
+use Rattle.std.proofs.Common.{◌≡◌, ◌+◌, List, [], ◌∷◌, ◌++◌, length, map, Vec, arith, sym, ap, ◌∙◌, subst, append-nil, append_assoc, length-append}
 use Rattle.std.proofs.lemmas.List.{length-map}
 use Rattle.std.specs.Prelude.{slice_get}
 use Rattle.std.specs.declared.alloc.Global.{Global}
@@ -6,7 +6,6 @@ use Rattle.std.specs.Vec.Iter.{into_iter_items}
 use Rattle.atomic_table.specs.declared.shared.Seat.{Seat}
 use Rattle.mz_events.specs.declared.entry.Entry.{Entry}
 use Rattle.mz_desk.specs.declared.view.View.{View}
-use Rattle.mz_desk.specs.Needs.{Seated}
 use Rattle.mz_desk.specs.Keys.{opened_as}
 use Rattle.mz_desk.specs.Seats.{joined_view, CanTakeIn}
 use Rattle.mz_register.specs.declared.pass.Pass.{Pass}
@@ -68,7 +67,7 @@ join_seat-requires-in-Some-next g c =
       ap (λ (s : Seat (_) View). s.me.1) seat ∙ bare_handed z p i pass idle,
       omega arith,
       c.join_seat.ensures (opened_as g.V.Keep.keeping r.table.shared.key) c.loop-pass.seat.id c.into_record-noted-in-Some-next.result.2.id v c.into_record-noted-in-Some-next.result.2.me.0
-      (subst (λ (s : Seat (_) View). CanTakeIn v s.me.0) (sym seat) (can_take z p i pass idle v live caller)),
+          (subst (λ (s : Seat (_) View). CanTakeIn v s.me.0) (sym seat) (can_take z p i pass idle v live caller)),
     )
 
 pub loop-pass-preserved : goal.loop-pass-preserved

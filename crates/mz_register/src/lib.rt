@@ -8,6 +8,8 @@
 //! - `find`: where a number stands.
 //! - `desk`: `Desk`, at which a pass is a book.
 //! - `open`: a plain book is taken apart into a register and a pass for each caller.
+//! - `records`: records are put together by ticket.
+//! - `hand_in`: all passes come in, and the register is a plain book again.
 //!
 //! ```text
 //! words    | counter | lock of 0 | lock of 1 | .. | class of block 0 | .. | slot (0, 0) | slot (0, 1) | ..
@@ -28,9 +30,11 @@
 mod calls;
 pub mod desk;
 mod find;
+pub mod hand_in;
 mod hold;
 pub mod open;
 pub mod pass;
+mod records;
 pub mod register;
 mod steps;
 

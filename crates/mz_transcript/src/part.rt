@@ -5,7 +5,7 @@ ghost use Rattle.mz_transcript.specs.Stages.{due_in};
 
 use crate::line::Due;
 use mz_base::Items;
-use mz_trace::{CallRecord, Command, RoundLine, StartRecord, Step};
+use mz_trace::{CallRecord, Command, RoundLine, RunEntry, StartRecord};
 
 /// What is open of a round.
 #[derive(Drop)]
@@ -20,7 +20,7 @@ pub enum Part {
     Start {
         starts: Items<StartRecord>,
         line: RoundLine,
-        steps: Items<Step>,
+        steps: Items<RunEntry>,
     },
     /// A caller's section, behind those that are closed.
     Section {
@@ -34,7 +34,7 @@ pub enum Part {
         lists: Items<Items<CallRecord>>,
         calls: Items<CallRecord>,
         command: Command,
-        steps: Items<Step>,
+        steps: Items<RunEntry>,
     },
 }
 

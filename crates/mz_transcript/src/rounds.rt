@@ -9,7 +9,7 @@ use crate::part::Part;
 use crate::stage::Stage;
 use mz_base::Items;
 use mz_trace::given::given_by;
-use mz_trace::{CallRecord, Command, RoundLine, StartRecord, Step};
+use mz_trace::{CallRecord, Command, RoundLine, RunEntry, StartRecord};
 use std::alloc::{AllocError, Global};
 
 /// One more line of the rounds.
@@ -89,7 +89,7 @@ fn start_told(
     book: Book,
     starts: Items<StartRecord>,
     line: RoundLine,
-    steps: Items<Step>,
+    steps: Items<RunEntry>,
     told: RunLine,
 ) -> Result<Option<Stage>, AllocError>
     ensures { IfOk result (λ s. s ≡ start_told book starts line steps told) }
@@ -204,7 +204,7 @@ fn call_told(
     lists: Items<Items<CallRecord>>,
     calls: Items<CallRecord>,
     command: Command,
-    steps: Items<Step>,
+    steps: Items<RunEntry>,
     told: RunLine,
 ) -> Result<Option<Stage>, AllocError>
     ensures { IfOk result (λ s. s ≡ call_told book starts lists calls command steps told) }

@@ -3,6 +3,7 @@ pub mod Pairs
 pub mod Owners
 pub mod Lights
 pub mod Account
+pub mod Exchanges
 pub mod Calls
 pub mod Rule
 pub mod Handed

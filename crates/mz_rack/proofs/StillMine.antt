@@ -1,7 +1,7 @@
 -- What is in the hand stays there while other requests are served, and a block that gets another size does.
-use Rattle.std.proofs.Common.{◌≡◌, ℕ, ◌<◌, ◌==◌, Bool, true, false, not, List, [], ◌∷◌, ◌++◌, length, map, filter, Option, None, Some, Ok, refl, ap, sym, subst, ◌∙◌, arith, inl, inr}
+use Rattle.std.proofs.Common.{◌≡◌, ℕ, ◌==◌, Bool, true, false, not, List, [], ◌∷◌, ◌++◌, length, map, Some, Ok, refl, ap, sym, subst, ◌∙◌, arith, inl, inr}
 use Rattle.std.specs.Option.{option_to_list}
-use Rattle.std.specs.Prelude.{◌≢◌, ◌&&◌, ◌||◌, Result, if◌then◌else◌}
+use Rattle.std.specs.Prelude.{◌≢◌, Result, if◌then◌else◌}
 use Rattle.std.proofs.lemmas.Option.{same_Some}
 use Rattle.std.proofs.lemmas.Bool.{and_parts, or_left, or_right, cases_Bool, cond-true, cond-false, false≢true, eqb-true}
 use Rattle.mz_base.specs.declared.profile.Profile.{Profile}
@@ -11,7 +11,6 @@ use Rattle.mz_base.specs.Lists.{has_block, drop_block}
 use Rattle.mz_events.specs.declared.entry.Entry.{Entry}
 use Rattle.mz_events.specs.declared.event.Event.{Event}
 use Rattle.mz_events.specs.declared.event.Event.TheVariants.{Size}
-use Rattle.mz_events.specs.declared.place.Place.{Place}
 use Rattle.mz_events.specs.Hands.{hand_after, hand_through}
 use Rattle.mz_record.specs.Served.{events}
 use Rattle.mz_record.specs.Dropped.{IsDropped}
@@ -21,7 +20,6 @@ use Rattle.mz_book.specs.Pairs.{hand_among}
 use Rattle.mz_book.specs.Growth.{Adds}
 use Rattle.mz_book.specs.Plain.{Reserves}
 use Rattle.mz_rack.specs.declared.lot.Null.{Null}
-use Rattle.mz_rack.specs.declared.lot.NotLive.{NotLive}
 use Rattle.mz_rack.specs.Lots.{LotView}
 use Rattle.mz_rack.specs.Ways.{request_of}
 use Rattle.mz_rack.specs.Serving.{CanServe, Answers, block_got}

@@ -76,13 +76,13 @@ routed_alike n g h =
           let r : route_of n ≡ range.Tiny = rw y refl in
           tiny_route g (subst (λ x. is_size x g ≡ true) r h) ∙ sym r
       | inr x ↦ elim (cases_Bool (nat_le n 32768)) [
-          | inl y ↦
-              let r : route_of n ≡ range.Small = rw (x, y) refl in
-              small_route g (subst (λ x. is_size x g ≡ true) r h) ∙ sym r
-          | inr y ↦
-              let r : route_of n ≡ range.Large = rw (x, y) refl in
-              large_route g (subst (λ x. is_size x g ≡ true) r h) ∙ sym r
-        ]
+        | inl y ↦
+            let r : route_of n ≡ range.Small = rw (x, y) refl in
+            small_route g (subst (λ x. is_size x g ≡ true) r h) ∙ sym r
+        | inr y ↦
+            let r : route_of n ≡ range.Large = rw (x, y) refl in
+            large_route g (subst (λ x. is_size x g ≡ true) r h) ∙ sym r
+      ]
     ]
 
 -- a block of large isn't small
@@ -257,10 +257,14 @@ module _ (L : BookLaws) (s : Account) (p : Profile) (z : ℕ) (l : LotView) (can
       resizes true at lawful y = settled_so true y (resized_in_place y.done.0 (of_one (true, y)) other y.done.1 (ap Some y.done.2), y.done.3)
       resizes false at lawful y =
           let now : state_at t.profile t.seen (length t.seen) ≡ state_of t = at t.seen lawful ∙ ap (λ h. after_all t.profile opening h) (take-length t.seen) in
-          settled_so false y (y.done.0, y.done.1, hemmed_in (of_one (false, y)) y.done.2 (record {
-            t = length t.seen;
-            not_before = omega arith;
-            not_after = omega arith;
-            within = omega arith;
-            hemmed = subst (λ x. IsHemmedIn x (block_of l) (good_size_of n)) (sym now) y.done.3;
-          }))
+          settled_so false y (
+            y.done.0,
+            y.done.1,
+            hemmed_in (of_one (false, y)) y.done.2 (record {
+              t = length t.seen;
+              not_before = omega arith;
+              not_after = omega arith;
+              within = omega arith;
+              hemmed = subst (λ x. IsHemmedIn x (block_of l) (good_size_of n)) (sym now) y.done.3;
+            }),
+          )

@@ -16,12 +16,7 @@ use std::test::Fail;
 
 // A block of `n` bytes. It is the book's caller's then, as those that were before.
 #[tactic(auto)]
-fn take<R: Wait>(
-    rt: &R,
-    rack: &Rack,
-    book: &mut PlainBook<Keeper>,
-    n: u64,
-) -> Result<Lot, Fail>
+fn take<R: Wait>(rt: &R, rack: &Rack, book: &mut PlainBook<Keeper>, n: u64) -> Result<Lot, Fail>
     requires can { CanServe (⟦<PlainBook<Keeper> as Book<Keeper>>⟧.account book.old) rack.now.profile rack.now.zone 0 }
     ensures can { IfOk result (λ l. CanServe (⟦<PlainBook<Keeper> as Book<Keeper>>⟧.account book.new) rack.now.profile rack.now.zone 0) }
     ensures lot { IfOk result (λ l. IsFreeable (⟦<PlainBook<Keeper> as Book<Keeper>>⟧.account book.new) l) }

@@ -22,7 +22,7 @@ use Rattle.mz_book.specs.Plain.{Reserves}
 use Rattle.mz_rack.specs.declared.lot.Null.{Null}
 use Rattle.mz_rack.specs.Lots.{LotView}
 use Rattle.mz_rack.specs.Ways.{request_of}
-use Rattle.mz_rack.specs.Serving.{CanServe, Answers, block_got}
+use Rattle.mz_rack.specs.Serving.{Answers, block_got}
 use Rattle.mz_rack.specs.Freeing.{block_of, IsFreeable, Frees}
 use Rattle.mz_rack.specs.Resizing.{Resizes}
 use Rattle.mz_rack.proofs.Listed.{is_same_block}
@@ -120,14 +120,3 @@ still_resized H s t l m n true r lot =
     let is = r.in_place in
     still s t r.mine _ l m adds lot is.1.space (ap (λ h. has_block h (block_of m)) (hand_then H s t r.mine _ adds) ∙ changed t.profile (hand s) (block_of l) (block_of m) n r.mine is.0 lot.in_hand)
 still_resized H s t l m n false r lot = subst (λ x. IsFreeable t x) (sym r.in_place.1) (unchanged H s t l m n r l lot)
-
--- requests can be made again
-pub can_after : (s t : Account) (p : Profile) (z m n : ℕ) (l k : LotView) (got : Bool) → CanServe s p z m → Resizes s l n got t k → CanServe t p z 0
-can_after s t p z m n l k got can r =
-    let adds = r.grows.adds in
-    record {
-      profile = adds.same.profile ∙ can.profile;
-      zone_open = adds.zones z ∙ can.zone_open;
-      nothing_held = r.nothing_held;
-      room = omega arith;
-    }

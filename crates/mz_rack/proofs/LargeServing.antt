@@ -23,7 +23,6 @@ use Rattle.mz_events.specs.Changes.{with_block, with_run, pages_without}
 use Rattle.mz_events.specs.History.{AreLawful}
 use Rattle.mz_events.specs.Leaving.{left_by}
 use Rattle.mz_events.specs.Standing.{Keeping}
-use Rattle.mz_record.specs.Served.{AreFlushes}
 use Rattle.mz_book.specs.Keepers.{is_held}
 use Rattle.mz_book.specs.Account.{Account, state_of, known, holds_spot, entry_at}
 use Rattle.mz_book.specs.Calls.{CanNote, Notes, Holds}
@@ -33,7 +32,7 @@ use Rattle.mz_rack.specs.declared.lot.Null.TheVariants as null
 use Rattle.mz_rack.specs.declared.way.LargeWay.{LargeWay}
 use Rattle.mz_rack.specs.BookLaws.{BookLaws}
 use Rattle.mz_rack.specs.Runs.{out_of_pages, IsFoundRun, MayEnter}
-use Rattle.mz_rack.specs.Stages.{at_pages, Keeps, LetsGo, IsDried, AreFlushed}
+use Rattle.mz_rack.specs.Stages.{at_pages, Keeps, LetsGo, IsDried}
 use Rattle.mz_rack.specs.Seeking.{CanSeek, cached_in, Sought, dry_at}
 use Rattle.mz_rack.specs.LargeStages.{large_spot, CanAskLarge, WasBest, TriedCache, NoneFits, SeeksRun, IsFreshRun, IsServedLarge, by_cache, by_fresh_run, null_in_large, ServedLarge}
 use Rattle.mz_rack.proofs.Steps.{or_elim, same_spot_refl, held_at, its_place, learn_touched, can_note, rest_grows}

@@ -1,6 +1,6 @@
 -- A keeper of regions gives a live block another size, for each place for which it stands.
 use Rattle.std.proofs.Common.{◌≡◌, ℕ, ◌*◌, ◌/◌, ◌<◌, ◌≤◌, Bool, true, false, length, take, sym, subst, inl, inr}
-use Rattle.std.specs.Prelude.{◌||◌, min, IsTrue}
+use Rattle.std.specs.Prelude.{◌||◌, min}
 use Rattle.std.specs.Bool.{MatchBool}
 use Rattle.std.proofs.lemmas.Bool.{false≢true, cases_lt}
 use Rattle.mz_base.specs.declared.profile.Profile.{Profile}

@@ -1,49 +1,43 @@
 -- A block gets another size in the place where it lives, or is hemmed in there, or its sizes alone tell that it stays or moves.
-use Rattle.std.proofs.Common.{◌≡◌, ℕ, ◌+◌, ◌*◌, ◌<◌, ◌≤◌, ◌==◌, Bool, true, false, not, List, [], ◌∷◌, length, take, refl, ap, sym, subst, ◌∙◌, arith, inl, inr, ◌⊎◌, ⊎_elim, Some, None, eq-eqb}
+use Rattle.std.proofs.Common.{◌≡◌, ℕ, ◌+◌, ◌*◌, ◌<◌, ◌≤◌, ◌==◌, Bool, true, false, not, List, [], ◌∷◌, length, take, refl, ap, sym, subst, ◌∙◌, arith, inl, inr, ⊎_elim, Some, None, eq-eqb}
 use Rattle.std.specs.Prelude.{◌≢◌, ◌%◌, ◌&&◌, ◌||◌, nat_le, min, IsTrue}
 use Rattle.std.specs.List.{list_any, list_all}
 use Rattle.std.proofs.Math.Seq.{take-length}
 use Rattle.std.proofs.lemmas.Bool.{and_parts, and_from, or_right, false≢true, leb-true, lt-leb, cases_Bool, cond-false}
 use Rattle.mz_base.specs.declared.profile.Profile.{Profile}
-use Rattle.mz_base.specs.declared.range.Range.{Range}
 use Rattle.mz_base.specs.declared.range.Range.TheVariants as range
 use Rattle.mz_base.specs.declared.range.TheConstants.{PAGE}
-use Rattle.mz_base.specs.Limits.{IsWithinLimits}
 use Rattle.mz_base.specs.Sizes.{route_of, good_size_of, is_size}
 use Rattle.mz_base.specs.Space.{Block, block_at, block_end, run_end, blocks_apart}
 use Rattle.mz_base.specs.Room.{lies_in}
 use Rattle.mz_base.specs.Lists.{has_block}
 use Rattle.mz_ground.specs.Views.{SpanView}
 use Rattle.mz_events.specs.declared.place.Place.{Place}
-use Rattle.mz_events.specs.declared.place.Place.TheVariants.{Pages, Tiny, TinyDepot, Small, SmallDepot, Large, Nano}
+use Rattle.mz_events.specs.declared.place.Place.TheVariants.{Tiny, TinyDepot, Small, SmallDepot, Large}
 use Rattle.mz_events.specs.declared.event.Event.{Event}
 use Rattle.mz_events.specs.declared.event.Event.TheVariants.{Size}
 use Rattle.mz_events.specs.declared.entry.Entry.{Entry}
-use Rattle.mz_events.specs.Places.{is_magazine, is_depot, is_large, is_nano, is_size_of, quantum_of, nano_start, zone_of, Spot, keeper_at, spot_at, spot_of, place_of}
-use Rattle.mz_events.specs.State.{Kept, Value, opening, kept_at, is_open}
+use Rattle.mz_events.specs.Places.{is_magazine, is_depot, is_large, is_nano, is_size_of, quantum_of, nano_start, Spot, keeper_at, spot_at, spot_of, place_of}
+use Rattle.mz_events.specs.State.{Kept, opening, kept_at}
 use Rattle.mz_events.specs.Forms.{HasForm}
 use Rattle.mz_events.specs.Placement.{lies_in_place}
 use Rattle.mz_events.specs.History.{AreLawful, after_all}
-use Rattle.mz_events.specs.Changes.{resized}
-use Rattle.mz_events.specs.Leaving.{left_by}
 use Rattle.mz_events.specs.Separation.{LiesAtHome}
-use Rattle.mz_events.specs.Standing.{Keeping, Stands}
 use Rattle.mz_record.specs.Moments.{state_at}
-use Rattle.mz_record.specs.Resized.{IsResized, IsOfOneRange, IsHemmedIn, Moves, WasHemmedIn, lies_in_nano_pages, stays_large}
+use Rattle.mz_record.specs.Resized.{IsOfOneRange, IsHemmedIn, lies_in_nano_pages, stays_large}
 use Rattle.mz_record.specs.Resized.{same_size, in_place as resized_in_place, still_large, between_ranges, large, hemmed_in}
 use Rattle.mz_book.specs.Keepers.{keeper_of, is_among}
-use Rattle.mz_book.specs.Account.{Account, IsOrderly, state_of, known, holds_spot, entry_at, HoldsNothing}
+use Rattle.mz_book.specs.Account.{Account, state_of, known, holds_spot, entry_at}
 use Rattle.mz_book.specs.Calls.{CanNote, Notes, Releases, without}
-use Rattle.mz_book.specs.Growth.{Grows, GrowsHolding}
+use Rattle.mz_book.specs.Growth.{GrowsHolding}
 use Rattle.mz_rack.specs.BookLaws.{BookLaws}
 use Rattle.mz_rack.specs.Lots.{LotView}
 use Rattle.mz_rack.specs.Serving.{CanServe}
-use Rattle.mz_rack.specs.Stages.{Keeps}
 use Rattle.mz_rack.specs.Freeing.{block_of, IsFreeable}
-use Rattle.mz_rack.specs.FreeStages.{CanLook, LivesIn}
-use Rattle.mz_rack.specs.Resizing.{KeepsBytes, IsInPlace, IsToldBySizes, Resizes}
-use Rattle.mz_rack.specs.ResizeStages.{has_room_to, IsRefit, Refits, IsDone, IsSettled}
-use Rattle.mz_rack.proofs.Steps.{same_number, same_spot_refl, one_spot, held_at, learn_touched, can_note, stands_then}
+use Rattle.mz_rack.specs.FreeStages.{LivesIn}
+use Rattle.mz_rack.specs.Resizing.{KeepsBytes, IsInPlace, Resizes}
+use Rattle.mz_rack.specs.ResizeStages.{has_room_to, IsRefit, Refits, IsSettled}
+use Rattle.mz_rack.proofs.Steps.{same_number, one_spot, held_at, can_note}
 use Rattle.mz_rack.proofs.Ended.{plain, spot_is_keeper}
 use Rattle.mz_rack.proofs.KeeperLemmas.{whole_size}
 

@@ -1,7 +1,7 @@
 -- What is in the hand stays there while other requests are served, and a block that gets another size does.
-use Rattle.std.proofs.Common.{◌≡◌, ℕ, ◌<◌, ◌==◌, Bool, true, false, not, List, [], ◌∷◌, ◌++◌, length, map, filter, Option, None, Some, Ok, refl, ap, sym, subst, ◌∙◌, arith, inl, inr}
+use Rattle.std.proofs.Common.{◌≡◌, ℕ, ◌==◌, Bool, true, false, not, List, [], ◌∷◌, ◌++◌, length, map, Some, Ok, refl, ap, sym, subst, ◌∙◌, arith, inl, inr}
 use Rattle.std.specs.Option.{option_to_list}
-use Rattle.std.specs.Prelude.{◌≢◌, ◌&&◌, ◌||◌, Result, if◌then◌else◌}
+use Rattle.std.specs.Prelude.{◌≢◌, Result, if◌then◌else◌}
 use Rattle.std.proofs.lemmas.Option.{same_Some}
 use Rattle.std.proofs.lemmas.Bool.{and_parts, or_left, or_right, cases_Bool, cond-true, cond-false, false≢true, eqb-true}
 use Rattle.mz_base.specs.declared.profile.Profile.{Profile}
@@ -11,7 +11,6 @@ use Rattle.mz_base.specs.Lists.{has_block, drop_block}
 use Rattle.mz_events.specs.declared.entry.Entry.{Entry}
 use Rattle.mz_events.specs.declared.event.Event.{Event}
 use Rattle.mz_events.specs.declared.event.Event.TheVariants.{Size}
-use Rattle.mz_events.specs.declared.place.Place.{Place}
 use Rattle.mz_events.specs.Hands.{hand_after, hand_through}
 use Rattle.mz_record.specs.Served.{events}
 use Rattle.mz_record.specs.Dropped.{IsDropped}
@@ -21,10 +20,9 @@ use Rattle.mz_book.specs.Pairs.{hand_among}
 use Rattle.mz_book.specs.Growth.{Adds}
 use Rattle.mz_book.specs.Plain.{Reserves}
 use Rattle.mz_rack.specs.declared.lot.Null.{Null}
-use Rattle.mz_rack.specs.declared.lot.NotLive.{NotLive}
 use Rattle.mz_rack.specs.Lots.{LotView}
 use Rattle.mz_rack.specs.Ways.{request_of}
-use Rattle.mz_rack.specs.Serving.{CanServe, Answers, block_got}
+use Rattle.mz_rack.specs.Serving.{Answers, block_got}
 use Rattle.mz_rack.specs.Freeing.{block_of, IsFreeable, Frees}
 use Rattle.mz_rack.specs.Resizing.{Resizes}
 use Rattle.mz_rack.proofs.Listed.{is_same_block}
@@ -122,14 +120,3 @@ still_resized H s t l m n true r lot =
     let is = r.in_place in
     still s t r.mine _ l m adds lot is.1.space (ap (λ h. has_block h (block_of m)) (hand_then H s t r.mine _ adds) ∙ changed t.profile (hand s) (block_of l) (block_of m) n r.mine is.0 lot.in_hand)
 still_resized H s t l m n false r lot = subst (λ x. IsFreeable t x) (sym r.in_place.1) (unchanged H s t l m n r l lot)
-
--- requests can be made again
-pub can_after : (s t : Account) (p : Profile) (z m n : ℕ) (l k : LotView) (got : Bool) → CanServe s p z m → Resizes s l n got t k → CanServe t p z 0
-can_after s t p z m n l k got can r =
-    let adds = r.grows.adds in
-    record {
-      profile = adds.same.profile ∙ can.profile;
-      zone_open = adds.zones z ∙ can.zone_open;
-      nothing_held = r.nothing_held;
-      room = omega arith;
-    }

@@ -1,5 +1,5 @@
 -- Large and the pages are held too.
-use Rattle.std.proofs.Common.{◌≡◌, ℕ, ◌*◌, ◌%◌, ◌<◌, ◌≤◌, ◌==◌, true, false, [], ◌∷◌, ◌++◌, length, length-append, refl, ap, sym, subst, ◌∙◌, arith, None}
+use Rattle.std.proofs.Common.{◌≡◌, ℕ, ◌*◌, ◌%◌, ◌<◌, ◌≤◌, ◌==◌, true, false, [], ◌∷◌, ◌++◌, length, refl, ap, sym, subst, ◌∙◌, arith, None}
 use Rattle.std.specs.Prelude.{◌&&◌, ◌||◌, nat_le, Ok, Err}
 use Rattle.std.specs.List.{list_all}
 use Rattle.std.proofs.lemmas.Bool.{false≢true, and_parts, eqb-true}
@@ -31,13 +31,10 @@ use Rattle.mz_rack.specs.Runs.{out_of_pages, IsFoundRun, MayFit, IsFitted, with_
 use Rattle.mz_rack.specs.Ways.{IsWay}
 use Rattle.mz_rack.specs.Asking.{IsTidy, MayAdopt}
 use Rattle.mz_rack.specs.Answering.{IsCut}
-use Rattle.mz_rack.specs.Stages.{at_magazine, at_depot, at_large, at_pages, Keeps, HasRoom, Ready, Tried, AreFull, Seeks, IsFresh, LetsGo, IsDried, AreFlushed, by_fresh_region, null_in_range, Served}
-use Rattle.mz_rack.specs.Seeking.{CanSeek, cached_in, Sought, dry_at}
+use Rattle.mz_rack.specs.Stages.{at_magazine, at_depot, at_large, at_pages, Keeps, HasRoom, Ready, Tried, AreFull, Seeks, IsFresh, LetsGo, IsDried, by_fresh_region, null_in_range, Served}
+use Rattle.mz_rack.specs.Seeking.{CanSeek, Sought, dry_at}
 use Rattle.std.proofs.lemmas.List.{append-nil}
 use Rattle.mz_book.specs.Account.{StandsFor}
-use Rattle.mz_record.specs.Served.{AreFlushes}
-use Rattle.mz_events.specs.declared.entry.Entry.{Entry}
-use Rattle.std.proofs.Common.{List}
 use Rattle.std.specs.Prelude.{Result}
 use Rattle.mz_rack.proofs.Steps.{test_below, keeps_at, same_spot_refl, apart_back, or_elim, held_at, its_place, learn_touched, learn_other, can_note, can_same, standing, stands_then, zone_below, two_k, two_d, three_k, three_d, three_l, four_k, four_d, four_l, four_p, holds_all, rest_grows}
 use Rattle.mz_rack.proofs.RoomLemmas.{room_of_region, room_of_fresh}

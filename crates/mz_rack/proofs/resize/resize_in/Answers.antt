@@ -1,4 +1,4 @@
-use Rattle.std.proofs.Common.{ap, subst, sym, true, false}
+use Rattle.std.proofs.Common.{ap, subst, sym, false}
 use Rattle.mz_events.specs.declared.event.Event.TheVariants.{Size}
 use Rattle.mz_events.specs.Places.{spot_of}
 use Rattle.mz_events.specs.Standing.{Stands}

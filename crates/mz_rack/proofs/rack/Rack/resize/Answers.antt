@@ -1,4 +1,4 @@
-use Rattle.std.proofs.Common.{ap, sym, subst, ◌∙◌, rules, arith, ◌≡◌, ◌*◌, false}
+use Rattle.std.proofs.Common.{ap, sym, subst, ◌∙◌, rules, ◌≡◌, ◌*◌}
 use Rattle.std.specs.Prelude.{◌≢◌}
 use denote.Enum.Bare.{differs_false}
 use Rattle.mz_base.specs.contracts.range.Range.{the_type}
@@ -6,7 +6,6 @@ use Rattle.mz_base.specs.Sizes.{route_of, good_size_of, unit_of, units_of}
 use Rattle.mz_base.specs.declared.range.Range.TheVariants as range
 use Rattle.mz_record.specs.Resized.{stays_large}
 use Rattle.mz_rack.specs.Freeing.{block_of}
-use Rattle.mz_rack.specs.Resizing.{Resizes}
 use Rattle.mz_rack.specs.ResizeStages.{IsSettled}
 use Rattle.mz_rack.proofs.Resizing.{routed_alike, of_another_range, of_same_size, of_large, resizes}
 use Rattle.mz_rack.proofs.rack.Rack.resize.Goals as goal

@@ -49,7 +49,18 @@ fn is_built_command(command: &Command) -> bool
         | Command::Fill { .. }
         | Command::Show { .. }
         | Command::Link { .. } => true,
-        _ => false,
+        Command::Calloc { .. }
+        | Command::Valloc { .. }
+        | Command::Memalign { .. }
+        | Command::Realloc { .. }
+        | Command::FreeAt { .. }
+        | Command::ZoneFree { .. }
+        | Command::SizedFree { .. }
+        | Command::Size { .. }
+        | Command::Give { .. }
+        | Command::Batch { .. }
+        | Command::Unbatch { .. }
+        | Command::Use { .. } => false,
     }
 }
 

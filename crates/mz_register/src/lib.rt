@@ -37,6 +37,8 @@ pub mod pass;
 mod records;
 pub mod register;
 mod steps;
+#[cfg(test)]
+mod tests;
 
 pub use desk::Desk;
 pub use mz_book::{Asked, Book, Found, Light, Pair, PlainBook};

@@ -1,0 +1,220 @@
+ghost use Rattle.std.specs.Prelude.{◌≡◌, ℕ, ◌<◌, ◌≤◌, true, [], ◌∷◌, length, IfOk};
+ghost use Rattle.mz_book.specs.Plain.{opening_account};
+ghost use Rattle.mz_register.specs.Passes.{IsOf};
+ghost use Rattle.mz_register.specs.Accounts.{pass_account};
+ghost use Rattle.mz_register.specs.Toys.{toy_profile, toy_site, MayBeFull, WasFull, MayLight, IsLike, WasDark, SitsAt, AreReady};
+
+use crate::{Book, Pass, PlainBook, Register, Taken};
+use client::{note_full, settle_first, take_light};
+use mz_events::Entry;
+use std::alloc::{AllocError, Global};
+use std::process::Abort;
+use std::sync::Wait;
+use std::test::Fail;
+use std::thread;
+use std::thread::Threads;
+use toy::{Toy, profile, toys};
+
+mod client;
+mod toy;
+
+fn book_of_toys(alloc: Global, nano: u64) -> Result<PlainBook<Toy>, AllocError>
+    requires { nano < 2 }
+    ensures { IfOk result (λ b. ⟦<PlainBook<Toy> as Book<Toy>>⟧.account b ≡ opening_account (toy_profile nano) toy_site) }
+{
+    let p = profile(nano);
+    PlainBook::new(alloc, &p, toys(alloc)?)
+}
+
+// A register of toys, and its two passes, each with room for so many entries.
+fn opened(
+    alloc: Global,
+    nano: u64,
+    room: u64,
+) -> Result<(Register<Toy>, Pass<Toy>, Pass<Toy>), AllocError>
+    requires { nano < 2 }
+    ensures { IfOk result (λ r. AreReady nano room r.0 r.1 r.2) }
+{
+    let Ok((register, mut passes)) = Register::open(alloc, book_of_toys(alloc, nano)?) else {
+        return Err(AllocError);
+    };
+    let Some(mut second) = passes.pop() else {
+        unreachable!()
+    };
+    let Some(mut first) = passes.pop() else {
+        unreachable!()
+    };
+    first.reserve(room)?;
+    second.reserve(room)?;
+    Ok((register, first, second))
+}
+
+fn both(alloc: Global, first: Pass<Toy>, second: Pass<Toy>) -> Result<Vec<Pass<Toy>>, AllocError>
+    ensures { IfOk result (λ v. v.items ≡ first ∷ second ∷ []) }
+{
+    Ok(vec![in alloc; first, second]?)
+}
+
+fn note_at_desk<R: Wait>(rt: &R, register: &Register<Toy>, pass: &mut Pass<Toy>) -> u64
+    requires of { IsOf register.now.table.shared.table_id register.now.opening.profile (pass_account pass.old) }
+    requires can { MayBeFull (pass_account pass.old) 1 }
+    ensures { WasFull (pass_account pass.old) result (pass_account pass.new) }
+{
+    let mut desk = register.desk(pass);
+    note_full(rt, &mut desk)
+}
+
+fn note_often<R: Wait>(rt: &R, register: &Register<Toy>, pass: Pass<Toy>) -> Pass<Toy>
+    requires sits { (c : ℕ) × SitsAt register.now c pass }
+    requires can { MayBeFull (pass_account pass) 1000 }
+    ensures { (c : ℕ) → SitsAt register.now c pass → SitsAt register.now c result }
+{
+    let mut pass = pass;
+    for _ in 0..1000u64 {
+        note_at_desk(rt, register, &mut pass);
+    }
+    pass
+}
+
+// Whether tickets are 0 to 1999, and each of the callers 0 and 1 has 1,000.
+fn are_all(history: &[Entry]) -> bool {
+    let in_order = history
+        .iter()
+        .enumerate()
+        .all(|(i, e)| e.ticket == i as u64);
+    let first = history.iter().filter(|e| e.caller == 0).count();
+    let second = history.iter().filter(|e| e.caller == 1).count();
+    in_order && history.len() == 2000 && first == 1000 && second == 1000
+}
+
+fn note_in_threads<R: Threads + Wait + Abort + Sync>(rt: &R, alloc: Global) -> Result<(), Fail> {
+    let (register, first, second) = opened(alloc, 0, 1000)?;
+    let shared = &register;
+    let (first, second) = thread::join(
+        rt,
+        move || -> Pass<Toy>
+            requires sits { SitsAt shared.now 0 first }
+            requires can { MayBeFull (pass_account first) 1000 }
+            ensures { SitsAt shared.entry.now 0 result }
+        { note_often(rt, shared, first) },
+        move || -> Pass<Toy>
+            requires sits { SitsAt shared.now 1 second }
+            requires can { MayBeFull (pass_account second) 1000 }
+            ensures { SitsAt shared.entry.now 1 result }
+        { note_often(rt, shared, second) },
+    );
+    let Ok(book) = register.hand_in(alloc, both(alloc, first, second)?) else {
+        return Err(Fail::from(AllocError));
+    };
+    assert!(rt; are_all(book.history()));
+    Ok(())
+}
+
+#[test]
+fn two_threads_note_under_one_keeper(rt: HostRuntime) -> Result<(), Fail> {
+    note_in_threads(&rt, rt.alloc())
+}
+
+fn settle_at_desk(register: &Register<Toy>, pass: &mut Pass<Toy>) -> bool
+    requires of { IsOf register.now.table.shared.table_id register.now.opening.profile (pass_account pass.old) }
+    requires may { (1 ≤ (pass_account pass.old).profile.nano) × ((pass_account pass.old).lights ≡ []) × (length (pass_account pass.old).settled ≡ (pass_account pass.old).profile.nano) }
+    ensures same { IsLike (pass_account pass.old) (pass_account pass.new) }
+    ensures may { result ≡ true → MayLight (pass_account pass.new) }
+{
+    let mut desk = register.desk(pass);
+    settle_first(&mut desk)
+}
+
+fn light_at_desk(register: &Register<Toy>, pass: &mut Pass<Toy>, j: u64) -> bool
+    requires of { IsOf register.now.table.shared.table_id register.now.opening.profile (pass_account pass.old) }
+    requires may { MayLight (pass_account pass.old) }
+    requires slot { j < 1024 }
+    ensures { WasDark (pass_account pass.old) (pass_account pass.new) }
+{
+    let mut desk = register.desk(pass);
+    take_light(&mut desk, j)
+}
+
+// How often the light of the slot was got, in 1,000 tries.
+fn light_often(register: &Register<Toy>, pass: Pass<Toy>, j: u64) -> (Pass<Toy>, u64)
+    requires sits { (c : ℕ) × SitsAt register.now c pass }
+    requires nano { 1 ≤ register.now.opening.profile.nano }
+    requires slot { j < 1024 }
+    ensures { (c : ℕ) → SitsAt register.now c pass → SitsAt register.now c result.0 }
+{
+    let mut pass = pass;
+    let mut taken = 0;
+    if settle_at_desk(register, &mut pass) {
+        for _ in 0..1000u64 {
+            if light_at_desk(register, &mut pass, j) {
+                taken += 1;
+            }
+        }
+    }
+    (pass, taken)
+}
+
+fn light_in_threads<R: Threads + Abort>(rt: &R, alloc: Global) -> Result<(), Fail> {
+    let (register, first, second) = opened(alloc, 1, 0)?;
+    let shared = &register;
+    let (first, second) = thread::join(
+        rt,
+        move || -> (Pass<Toy>, u64)
+            requires sits { SitsAt shared.now 0 first }
+            requires nano { 1 ≤ shared.now.opening.profile.nano }
+            ensures { SitsAt shared.entry.now 0 result.0 }
+        { light_often(shared, first, 0) },
+        move || -> (Pass<Toy>, u64)
+            requires sits { SitsAt shared.now 1 second }
+            requires nano { 1 ≤ shared.now.opening.profile.nano }
+            ensures { SitsAt shared.entry.now 1 result.0 }
+        { light_often(shared, second, 1) },
+    );
+    let ((first, of_first), (second, of_second)) = (first, second);
+    assert_eq!(rt; (of_first, of_second), (1000, 1000));
+    let Ok(book) = register.hand_in(alloc, both(alloc, first, second)?) else {
+        return Err(Fail::from(AllocError));
+    };
+    assert_eq!(rt;
+        (
+            book.class_word(0),
+            book.slot_word(0, 0),
+            book.slot_word(0, 1)
+        ),
+        (1, 0, 0)
+    );
+    Ok(())
+}
+
+#[test]
+fn two_threads_take_lights_of_one_block(rt: HostRuntime) -> Result<(), Fail> {
+    light_in_threads(&rt, rt.alloc())
+}
+
+#[test]
+fn two_keepers(rt: HostRuntime) -> Result<(), Fail> {
+    let (register, mut first, mut second) = opened(rt.alloc(), 1, 0)?;
+    let held = register.desk(&mut first).hold(&rt, 0);
+    let Err(taken) = register.try_hold(&mut second, 0) else {
+        return Err(Fail::new("keeper 0 was free"));
+    };
+    let Ok(other) = register.try_hold(&mut second, 1) else {
+        return Err(Fail::new("keeper 1 wasn't free"));
+    };
+    assert_eq!(rt;
+        (held.number, taken, other.number),
+        (0, Taken { word: 1 }, 1)
+    );
+    assert!(rt; settle_at_desk(&register, &mut second));
+    assert!(rt; light_at_desk(&register, &mut second, 0));
+    Ok(())
+}
+
+#[test]
+fn a_client_of_any_book_notes_at_a_plain_book(rt: HostRuntime) -> Result<(), Fail> {
+    let mut book = book_of_toys(rt.alloc(), 0)?;
+    book.reserve(1)?;
+    assert_eq!(rt; note_full(&rt, &mut book), 0);
+    assert_eq!(rt; book.history().len(), 1);
+    Ok(())
+}

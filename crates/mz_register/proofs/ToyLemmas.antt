@@ -1,5 +1,5 @@
 -- The keepers of the tests stand for the places of their profiles, and one of them may be held while an event is noted.
-use Rattle.std.proofs.Common.{◌≡◌, ℕ, ◌+◌, ◌-◌, ◌<◌, ◌≤◌, ◌==◌, List, [], ◌∷◌, ◌++◌, true, false, refl, ap, sym, subst, ◌∙◌, zero, suc, arith, length, length-append, Some, None, ne_eqb}
+use Rattle.std.proofs.Common.{◌≡◌, ℕ, ◌+◌, ◌-◌, ◌<◌, ◌≤◌, ◌==◌, List, [], ◌∷◌, ◌++◌, true, false, refl, ap, sym, subst, ◌∙◌, zero, suc, arith, length, length-append, get_or, Some, None, ne_eqb}
 use Rattle.std.specs.Prelude.{map, slice_get}
 use Rattle.std.specs.List.{list_all}
 use Rattle.std.proofs.lemmas.Bool.{false≢true}
@@ -31,7 +31,7 @@ use Rattle.mz_register.specs.declared.pass.Pass.{Pass}
 use Rattle.mz_register.specs.declared.register.Register.{Register}
 use Rattle.mz_register.specs.Accounts.{pass_account}
 use Rattle.mz_register.specs.HandIn.{AreAll, IsIdleOf}
-use Rattle.mz_register.specs.Toys.{toy, toy_site, toy_profile, large_is_full, MayBeFull, WasFull, MayLight, IsLike, IsReady}
+use Rattle.mz_register.specs.Toys.{toy, toy_site, toy_profile, large_is_full, MayBeFull, WasFull, MayLight, IsLike, WasDark, IsReady}
 use Rattle.mz_register.proofs.MergeLemmas.{some_is}
 
 pub keeping_is : {V : Type 0} (number : V → ℕ) (vs : List V) → map (λ v. toy (number v)) vs ≡ map toy (map number vs)
@@ -270,3 +270,10 @@ two_taken all less (z ∷ zs) x y e f n =
     let c = ap length f in
     let d = length-append (z ∷ zs) (x ∷ []) in
     absurd (omega arith)
+
+pub dark_again : (s t : Account) → WasDark s t → MayLight s → MayLight t
+dark_again s t was may = record {
+  some = let p = ap (λ (p : Profile). p.nano) was.like.profile in let k = may.some in omega arith;
+  dark = was.like.lights ∙ may.dark;
+  settled = ap (λ xs. get_or xs 0 0) was.settled ∙ may.settled;
+}

@@ -8,11 +8,8 @@ use crate::{Book, Pass, PlainBook, Register, Taken};
 use client::{note_full, settle_first, take_light};
 use mz_events::Entry;
 use std::alloc::{AllocError, Global};
-use std::process::Abort;
 use std::sync::Wait;
 use std::test::Fail;
-use std::thread;
-use std::thread::Threads;
 use toy::{Toy, profile, toys};
 
 mod client;
@@ -64,55 +61,20 @@ fn note_at_desk<R: Wait>(rt: &R, register: &Register<Toy>, pass: &mut Pass<Toy>)
     note_full(rt, &mut desk)
 }
 
-fn note_often<R: Wait>(rt: &R, register: &Register<Toy>, pass: Pass<Toy>) -> Pass<Toy>
-    requires sits { (c : ℕ) × SitsAt register.now c pass }
-    requires can { MayBeFull (pass_account pass) 1000 }
-    ensures { (c : ℕ) → SitsAt register.now c pass → SitsAt register.now c result }
+fn hand_both(
+    alloc: Global,
+    register: Register<Toy>,
+    first: Pass<Toy>,
+    second: Pass<Toy>,
+) -> Result<PlainBook<Toy>, Fail>
+    requires callers { register.opening.profile.callers ≡ 2 }
+    requires first { SitsAt register 0 first }
+    requires second { SitsAt register 1 second }
 {
-    let mut pass = pass;
-    for _ in 0..1000u64 {
-        note_at_desk(rt, register, &mut pass);
-    }
-    pass
-}
-
-// Whether tickets are 0 to 1999, and each of the callers 0 and 1 has 1,000.
-fn are_all(history: &[Entry]) -> bool {
-    let in_order = history
-        .iter()
-        .enumerate()
-        .all(|(i, e)| e.ticket == i as u64);
-    let first = history.iter().filter(|e| e.caller == 0).count();
-    let second = history.iter().filter(|e| e.caller == 1).count();
-    in_order && history.len() == 2000 && first == 1000 && second == 1000
-}
-
-fn note_in_threads<R: Threads + Wait + Abort + Sync>(rt: &R, alloc: Global) -> Result<(), Fail> {
-    let (register, first, second) = opened(alloc, 0, 1000)?;
-    let shared = &register;
-    let (first, second) = thread::join(
-        rt,
-        move || -> Pass<Toy>
-            requires sits { SitsAt shared.now 0 first }
-            requires can { MayBeFull (pass_account first) 1000 }
-            ensures { SitsAt shared.entry.now 0 result }
-        { note_often(rt, shared, first) },
-        move || -> Pass<Toy>
-            requires sits { SitsAt shared.now 1 second }
-            requires can { MayBeFull (pass_account second) 1000 }
-            ensures { SitsAt shared.entry.now 1 result }
-        { note_often(rt, shared, second) },
-    );
     let Ok(book) = register.hand_in(alloc, both(alloc, first, second)?) else {
         return Err(Fail::from(AllocError));
     };
-    assert!(rt; are_all(book.history()));
-    Ok(())
-}
-
-#[test]
-fn two_threads_note_under_one_keeper(rt: HostRuntime) -> Result<(), Fail> {
-    note_in_threads(&rt, rt.alloc())
+    Ok(book)
 }
 
 fn settle_at_desk(register: &Register<Toy>, pass: &mut Pass<Toy>) -> bool
@@ -135,66 +97,20 @@ fn light_at_desk(register: &Register<Toy>, pass: &mut Pass<Toy>, j: u64) -> bool
     take_light(&mut desk, j)
 }
 
-// How often the light of the slot was got, in 1,000 tries.
-fn light_often(register: &Register<Toy>, pass: Pass<Toy>, j: u64) -> (Pass<Toy>, u64)
-    requires sits { (c : ℕ) × SitsAt register.now c pass }
+fn settle_and_light(register: &Register<Toy>, pass: &mut Pass<Toy>) -> bool
+    requires of { IsOf register.now.table.shared.table_id register.now.opening.profile (pass_account pass.old) }
     requires nano { 1 ≤ register.now.opening.profile.nano }
-    requires slot { j < 1024 }
-    ensures { (c : ℕ) → SitsAt register.now c pass → SitsAt register.now c result.0 }
+    requires dark { (pass_account pass.old).lights ≡ [] }
 {
-    let mut pass = pass;
-    let mut taken = 0;
-    if settle_at_desk(register, &mut pass) {
-        for _ in 0..1000u64 {
-            if light_at_desk(register, &mut pass, j) {
-                taken += 1;
-            }
-        }
-    }
-    (pass, taken)
-}
-
-fn light_in_threads<R: Threads + Abort>(rt: &R, alloc: Global) -> Result<(), Fail> {
-    let (register, first, second) = opened(alloc, 1, 0)?;
-    let shared = &register;
-    let (first, second) = thread::join(
-        rt,
-        move || -> (Pass<Toy>, u64)
-            requires sits { SitsAt shared.now 0 first }
-            requires nano { 1 ≤ shared.now.opening.profile.nano }
-            ensures { SitsAt shared.entry.now 0 result.0 }
-        { light_often(shared, first, 0) },
-        move || -> (Pass<Toy>, u64)
-            requires sits { SitsAt shared.now 1 second }
-            requires nano { 1 ≤ shared.now.opening.profile.nano }
-            ensures { SitsAt shared.entry.now 1 result.0 }
-        { light_often(shared, second, 1) },
-    );
-    let ((first, of_first), (second, of_second)) = (first, second);
-    assert_eq!(rt; (of_first, of_second), (1000, 1000));
-    let Ok(book) = register.hand_in(alloc, both(alloc, first, second)?) else {
-        return Err(Fail::from(AllocError));
-    };
-    assert_eq!(rt;
-        (
-            book.class_word(0),
-            book.slot_word(0, 0),
-            book.slot_word(0, 1)
-        ),
-        (1, 0, 0)
-    );
-    Ok(())
-}
-
-#[test]
-fn two_threads_take_lights_of_one_block(rt: HostRuntime) -> Result<(), Fail> {
-    light_in_threads(&rt, rt.alloc())
+    settle_at_desk(register, pass) && light_at_desk(register, pass, 0)
 }
 
 #[test]
 fn two_keepers(rt: HostRuntime) -> Result<(), Fail> {
     let (register, mut first, mut second) = opened(rt.alloc(), 1, 0)?;
-    let held = register.desk(&mut first).hold(&rt, 0);
+    let Ok(held) = register.try_hold(&mut first, 0) else {
+        return Err(Fail::new("keeper 0 wasn't free"));
+    };
     let Err(taken) = register.try_hold(&mut second, 0) else {
         return Err(Fail::new("keeper 0 was free"));
     };
@@ -205,8 +121,26 @@ fn two_keepers(rt: HostRuntime) -> Result<(), Fail> {
         (held.number, taken, other.number),
         (0, Taken { word: 1 }, 1)
     );
-    assert!(rt; settle_at_desk(&register, &mut second));
-    assert!(rt; light_at_desk(&register, &mut second, 0));
+    assert!(rt; settle_and_light(&register, &mut second));
+    Ok(())
+}
+
+// Whether the first entry is of caller 1, and the second and last one of caller 0.
+fn are_both(history: &[Entry]) -> bool {
+    match history {
+        [first, second] => (first.ticket, first.caller, second.ticket, second.caller)
+            == (0, 1, 1, 0),
+        _ => false,
+    }
+}
+
+#[test]
+fn a_client_of_any_book_notes_at_a_desk(rt: HostRuntime) -> Result<(), Fail> {
+    let (register, mut first, mut second) = opened(rt.alloc(), 0, 1)?;
+    assert_eq!(rt; note_at_desk(&rt, &register, &mut second), 0);
+    assert_eq!(rt; note_at_desk(&rt, &register, &mut first), 1);
+    let book = hand_both(rt.alloc(), register, first, second)?;
+    assert!(rt; are_both(book.history()));
     Ok(())
 }
 

@@ -1,5 +1,5 @@
 -- The keepers of the tests stand for the places of their profiles, and one of them may be held while an event is noted.
-use Rattle.std.proofs.Common.{◌≡◌, ℕ, ◌+◌, ◌-◌, ◌<◌, ◌≤◌, ◌==◌, List, [], ◌∷◌, ◌++◌, true, false, refl, ap, sym, subst, ◌∙◌, zero, suc, arith, length, length-append, get_or, Some, None, ne_eqb}
+use Rattle.std.proofs.Common.{◌≡◌, ℕ, ◌+◌, ◌-◌, ◌<◌, ◌≤◌, List, [], ◌∷◌, ◌++◌, true, refl, ap, sym, subst, ◌∙◌, zero, suc, arith, length, length-append, get_or, Some, None, ne_eqb}
 use Rattle.std.specs.Prelude.{map, slice_get}
 use Rattle.std.specs.List.{list_all}
 use Rattle.std.proofs.lemmas.Bool.{false≢true}
@@ -10,7 +10,7 @@ use Rattle.mz_base.specs.Site.{Site}
 use Rattle.mz_events.specs.declared.place.Place.{Place}
 use Rattle.mz_events.specs.declared.place.Place.TheVariants.{Large}
 use Rattle.mz_events.specs.Places.{Spot, keeper_at, spot_of}
-use Rattle.mz_events.specs.State.{State, Kept, nothing_kept, value_at, is_open, opening}
+use Rattle.mz_events.specs.State.{Kept, nothing_kept, is_open, opening}
 use Rattle.mz_events.specs.History.{after_all}
 use Rattle.mz_events.specs.declared.entry.Entry.{Entry}
 use Rattle.mz_book.specs.declared.pair.Pair.{Pair}

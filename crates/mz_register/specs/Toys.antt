@@ -1,5 +1,5 @@
 -- Keepers for tests, by number, of a space with one page below nano's.
-use Rattle.std.specs.Prelude.{◌≡◌, ℕ, ◌+◌, ◌-◌, ◌==◌, ◌<◌, ◌≤◌, true, false, List, [], ◌∷◌, ◌++◌, None, if◌then◌else◌, IsTrue}
+use Rattle.std.specs.Prelude.{◌≡◌, ℕ, ◌+◌, ◌-◌, ◌==◌, ◌<◌, ◌≤◌, true, false, [], ◌∷◌, ◌++◌, None, if◌then◌else◌}
 use Rattle.mz_base.specs.declared.profile.Profile.{Profile}
 use Rattle.mz_base.specs.Site.{Site}
 use Rattle.mz_events.specs.declared.event.Event.{Event}

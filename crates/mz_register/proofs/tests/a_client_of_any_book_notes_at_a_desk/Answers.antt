@@ -1,4 +1,4 @@
-use Rattle.std.proofs.Common.{◌<◌, arith}
+use Rattle.std.proofs.Common.{arith}
 use Rattle.mz_register.proofs.ToyLemmas.{may_when_ready}
 use Rattle.mz_register.proofs.tests.a_client_of_any_book_notes_at_a_desk.Goals as goal
 

@@ -1,4 +1,4 @@
-use Rattle.mz_book.specs.Account.{Account, state_of}
+use Rattle.mz_book.specs.Account.{state_of}
 use Rattle.mz_register.specs.Toys.{large_is_full}
 use Rattle.mz_register.proofs.ToyLemmas.{can_hold, can_note, reads_large, can_release, stands_again, was_full}
 use Rattle.mz_register.proofs.tests.client.note_full.Goals as goal

@@ -14,3 +14,4 @@ mod HandInLemmas
 mod WriteLemmas
 mod FitLemmas
 mod AtEnd
+mod ToyLemmas

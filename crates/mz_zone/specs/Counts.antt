@@ -1,0 +1,76 @@
+-- That nano is tried, and how a request is answered without it. One try for each request is after libmalloc's nano; the counts are
+-- this project's own.
+use Rattle.std.specs.Prelude.{◌≡◌, ◌⊎◌, ℕ, ◌==◌, Bool, true, false, nat_le, ◌&&◌, List, Option, None, Some, slice_set, slice_index_or}
+use Rattle.mz_base.specs.Sizes.{units_of}
+use Rattle.mz_book.specs.declared.light.Asked.{Asked}
+use Rattle.mz_book.specs.declared.light.Asked.TheVariants.{Settle, HoldLight}
+use Rattle.mz_book.specs.Account.{Account, one_more}
+use Rattle.mz_nano.specs.declared.view.Held.{Held}
+use Rattle.mz_nano.specs.Rule.{held}
+use Rattle.mz_nano.specs.CallEffects.{risen}
+use Rattle.mz_zone.specs.Calling.{Seated, AtView}
+
+-- what is counted and known of nano: by the seat, how often it popped and missed, and what it missed and popped last; by the book, how
+-- often it found another word, what it asked then, and the class of each block. A count that stands at its end tells nothing.
+pub record Counts : Type 0 where
+  pub tries : ℕ
+  pub misses : ℕ
+  pub missed : ℕ
+  pub popped : Option Held
+  pub founds : ℕ
+  pub found : Option Asked
+  pub settled : List ℕ
+
+abbrev counts_in : Account → Option Seated → Counts
+counts_in s None = record { tries = 0; misses = 0; missed = 0; popped = None; founds = s.founds; found = s.found; settled = s.settled }
+counts_in s (Some x) =
+    record { tries = x.seat.tries; misses = x.seat.misses; missed = x.seat.missed; popped = x.seat.popped; founds = s.founds; found = s.found; settled = s.settled }
+
+abbrev pub counts_of : AtView → Counts
+counts_of v = counts_in v.book v.nano
+
+-- one more pop was made
+abbrev tried : Counts → Counts
+tried x = record x { tries = risen x.tries }
+
+-- and it gave this slot
+abbrev popped : Held → Counts → Counts
+popped h x = record (tried x) { popped = Some h }
+
+-- the block has this class from now on, and had no other
+abbrev settled : ℕ → ℕ → Counts → Counts
+settled b c x = record x { settled = slice_set x.settled b c }
+
+abbrev HasNoOther : Counts → ℕ → ℕ → Type 0
+HasNoOther x b c = (slice_index_or x.settled b 0 ≡ 0) ⊎ (slice_index_or x.settled b 0 ≡ c)
+
+-- another word was found than was asked for
+abbrev found_otherwise : Asked → Counts → Counts
+found_otherwise asked x = record x { founds = one_more x.founds; found = Some asked }
+
+-- A request of class c tried nano once, and got this slot or none. It got none where the pop missed, where the popped slot's block has
+-- another class, and where the slot's word isn't 0. The book knows no more classes than before, but for that of the popped slot's block.
+pub data Tried (c : ℕ) (x : Counts) (slot : Option Held) (y : Counts) : Type 0 where
+  served : (b j : ℕ) → slot ≡ Some (held b j c) → HasNoOther x b c → y ≡ settled b c (popped (held b j c) x) → Tried c x slot y
+  missed : slot ≡ None → y ≡ record (tried x) { misses = risen x.misses; missed = c } → Tried c x slot y
+  of_another_class : (b j : ℕ) → slot ≡ None → y ≡ found_otherwise (Settle b c) (popped (held b j c) x) → Tried c x slot y
+  not_idle :
+      (b j : ℕ) → slot ≡ None → HasNoOther x b c → y ≡ found_otherwise (HoldLight b j 0) (settled b c (popped (held b j c) x))
+      → Tried c x slot y
+
+abbrev has_nano : Option Seated → Bool
+has_nano None = false
+has_nano (Some x) = true
+
+-- nano is there, and the request is one for at most 256 bytes at 16 in zone 0
+abbrev pub is_for_nano : AtView → ℕ → ℕ → ℕ → Bool
+is_for_nano v z n al = has_nano v.nano && (z == 0) && nat_le n 256 && (al == 16)
+
+-- a request that isn't one for nano counts nothing, and gets no slot
+abbrev TriesIf : Bool → ℕ → Counts → Option Held → Counts → Type 0
+TriesIf true c x slot y = Tried c x slot y
+TriesIf false c x slot y = (slot ≡ None) × (y ≡ x)
+
+-- a request for n bytes at al in zone z got this slot, or none
+abbrev pub Tries : AtView → ℕ → ℕ → ℕ → Option Held → AtView → Type 0
+Tries v z n al slot w = TriesIf (is_for_nano v z n al) (units_of n) (counts_of v) slot (counts_of w)

@@ -1,0 +1,101 @@
+//! Blocks of nano: how a slot becomes a live block, and how that ends.
+//!
+//! ```text
+//! request   pop    settle    hold_light, 0     note new   release_light
+//!            |       |           |
+//!           miss   Found       Found            the slot goes back where it was popped, and nano has no block
+//!
+//! free      hold_light, 1    note end   release_light   push, again while another seat comes between
+//! ```
+use crate::at::At;
+use mz_base::units;
+use mz_book::Book;
+use mz_events::{Event, Place};
+use mz_nano::{Nano, NanoSeat, SlotSpan};
+use mz_rack::Keeper;
+use std::sync::Wait;
+
+// The most bytes of a request that nano serves, and the alignment of all its slots.
+const MOST: u64 = 256;
+
+const QUANTUM: u64 = 16;
+
+/// Tries nano once for a request that is one for it.
+pub(crate) fn try_nano<B: Book<Keeper>, R: Wait>(
+    rt: &R,
+    at: &mut At<B>,
+    zone: u32,
+    n: u64,
+    al: u64,
+) -> Option<SlotSpan> {
+    if zone != 0 || n > MOST || al != QUANTUM {
+        return None;
+    }
+    let Some((nano, seat)) = &mut at.nano else {
+        return None;
+    };
+    take_block(rt, at.book, nano, seat, units(n))
+}
+
+// Pops a slot of the class and makes it a live block. A slot that can't be one goes back.
+fn take_block<B: Book<Keeper>, R: Wait>(
+    rt: &R,
+    book: &mut B,
+    nano: &Nano,
+    seat: &mut NanoSeat,
+    class: u64,
+) -> Option<SlotSpan> {
+    let slot = match nano.pop(seat, class) {
+        Ok(slot) => slot,
+        Err(_miss) => return None,
+    };
+    if make_block(book, &slot) {
+        return Some(slot);
+    }
+    put_back(rt, nano, seat, slot);
+    None
+}
+
+// Makes the slot a live block, where its page's class and its own word allow it.
+fn make_block<B: Book<Keeper>>(book: &mut B, slot: &SlotSpan) -> bool {
+    let (b, class) = (slot.block(), slot.class());
+    let Ok(()) = book.settle(b, class) else {
+        return false;
+    };
+    let Ok(light) = book.hold_light(b, slot.slot(), 0) else {
+        return false;
+    };
+    book.note(Event::New {
+        k: Place::Nano,
+        a: slot.first(),
+        s: QUANTUM * class,
+        al: QUANTUM,
+    });
+    book.release_light(light, true);
+    true
+}
+
+/// Ends the block of a slot.
+pub(crate) fn end_block<B: Book<Keeper>>(book: &mut B, slot: &SlotSpan) {
+    let Ok(light) = book.hold_light(slot.block(), slot.slot(), 1) else {
+        unreachable!();
+    };
+    book.note(Event::End {
+        k: Place::Nano,
+        a: slot.first(),
+        s: QUANTUM * slot.class(),
+    });
+    book.release_light(light, false);
+}
+
+/// Pushes a slot until no other seat comes between.
+pub(crate) fn put_back<R: Wait>(rt: &R, nano: &Nano, seat: &mut NanoSeat, slot: SlotSpan) {
+    let mut slot = slot;
+    for _ in rt.forever() {
+        match nano.push(seat, slot) {
+            Ok(()) => return,
+            Err(contended) => slot = contended.slot,
+        }
+    }
+    unreachable!()
+}

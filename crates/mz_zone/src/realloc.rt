@@ -1,0 +1,102 @@
+//! The call that gives a block another size.
+ghost use Rattle.std.specs.Prelude.{◌≡◌, ◌<◌, ◌≤◌, Some, IfSome};
+ghost use Rattle.mz_zone.specs.Calling.{seen, CanCall, IsHandedIn, KeepsReferences};
+ghost use Rattle.mz_zone.specs.Moving.{Reallocs};
+
+use crate::at::At;
+use crate::block::{Block, Inner};
+use crate::fault::ReallocFault;
+use crate::zone::Zone;
+use mz_base::units;
+use mz_book::Book;
+use mz_rack::{Keeper, Lot, Rack};
+use std::sync::Wait;
+
+// Stands for `Rack::resize` until that is there.
+fn resize<B: Book<Keeper>, R: Wait>(
+    rack: &Rack,
+    rt: &R,
+    book: &mut B,
+    lot: &mut Lot,
+    n: u64,
+) -> bool {
+    let (_, _, _, _, _) = (rack, rt, book, lot, n);
+    false
+}
+
+impl Zone {
+    /// Gives a block room for `n` bytes.
+    pub fn realloc<B: Book<Keeper>, R: Wait>(
+        &self,
+        rt: &R,
+        at: &mut At<B>,
+        b: Option<Block>,
+        n: u64,
+    ) -> Result<Block, ReallocFault>
+        requires can { CanCall (seen B.account at.old) self.now.profile self.now.zone 40 }
+        requires block { IfSome b (IsHandedIn (seen B.account at.old)) }
+        ensures references { KeepsReferences at.old at.new }
+        ensures reallocs { Reallocs (seen B.account at.old) self.now.zone b n result (seen B.account at.new) }
+    {
+        let Some(mut b) = b else {
+            return match self.malloc(rt, at, n) {
+                Ok(block) => Ok(block),
+                Err(null) => Err(ReallocFault::Null { block: None, null }),
+            };
+        };
+        if b.zone() != self.zone {
+            return match self.free(rt, at, b) {
+                Ok(()) => unreachable!(),
+                Err(fault) => Err(ReallocFault::NotLive(fault)),
+            };
+        }
+        if n > 0 && self.stays(rt, at, &mut b, n) {
+            return Ok(b);
+        }
+        self.move_on(rt, at, b, n)
+    }
+
+    // Gives the block room for `n` bytes where it is, if it has it there.
+    fn stays<B: Book<Keeper>, R: Wait>(
+        &self,
+        rt: &R,
+        at: &mut At<B>,
+        b: &mut Block,
+        n: u64,
+    ) -> bool {
+        match &mut b.inner {
+            Inner::Lot(lot) => resize(&self.rack, rt, at.book, lot, n),
+            Inner::Slot(slot) => n <= 256 && units(n) == slot.class(),
+        }
+    }
+
+    // Makes another block for `n` bytes, copies what it keeps, and ends the first.
+    fn move_on<B: Book<Keeper>, R: Wait>(
+        &self,
+        rt: &R,
+        at: &mut At<B>,
+        b: Block,
+        n: u64,
+    ) -> Result<Block, ReallocFault> {
+        let mut new = match self.malloc(rt, at, n) {
+            Ok(new) => new,
+            Err(null) => {
+                return Err(ReallocFault::Null {
+                    block: Some(b),
+                    null,
+                });
+            }
+        };
+        copy(&b, &mut new, n);
+        match self.free(rt, at, b) {
+            Ok(()) => Ok(new),
+            Err(_fault) => unreachable!(),
+        }
+    }
+}
+
+// Copies the first `n` bytes, as many as there are.
+fn copy(from: &Block, to: &mut Block, n: u64) {
+    let len = from.size().min(n) as usize;
+    to.bytes_mut()[..len].copy_from_slice(&from.bytes()[..len]);
+}

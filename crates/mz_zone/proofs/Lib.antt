@@ -1,0 +1,5 @@
+pub mod Going
+pub mod SlotArithmetic
+pub mod NanoMaking
+pub mod Serving
+pub mod Freed

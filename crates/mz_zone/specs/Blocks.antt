@@ -33,7 +33,7 @@ abbrev pub with_block_bytes : BlockView → List ℕ → BlockView
 with_block_bytes b ws = record b { span = with_bytes b.span ws }
 
 -- a seat's hand with the slot of a block, where it is a block of nano
-abbrev slot_added : Option Held → List Held → List Held
+abbrev pub slot_added : Option Held → List Held → List Held
 slot_added None hand = hand
 slot_added (Some h) hand = h ∷ hand
 
@@ -41,7 +41,7 @@ abbrev pub hand_with : BlockView → List Held → List Held
 hand_with b hand = slot_added b.slot hand
 
 -- and without it
-abbrev slot_dropped : Option Held → List Held → List Held
+abbrev pub slot_dropped : Option Held → List Held → List Held
 slot_dropped None hand = hand
 slot_dropped (Some h) hand = without h.block h.slot hand
 

@@ -37,6 +37,10 @@ seated (Some x) = Some (record { nano = x.0.now; seat = x.1.now })
 abbrev pub seen : {B : Type 0} → (B → Account) → At B → AtView
 seen account at = record { book = account at.book.now; nano = seated at.nano }
 
+-- with nano there
+abbrev pub with_seat : Account → Nano → NanoSeat → AtView
+with_seat s nano seat = record { book = s; nano = Some (record { nano = nano; seat = seat }) }
+
 -- the references are those of before
 abbrev KeepsSeat : Option (Bor Nano × MutBor NanoSeat) → Option (Bor Nano × MutBor NanoSeat) → Type 0
 KeepsSeat None None = Unit {0}
@@ -102,7 +106,7 @@ pub record Goes (v : AtView) (mine : List Entry) (w : AtView) : Type 0 where
   pub nano : StaysSeated v.nano w.nano
 
 -- the slots in the hand of the seat
-abbrev hand_in : Option Seated → List Held
+abbrev pub hand_in : Option Seated → List Held
 hand_in None = []
 hand_in (Some x) = hand_of x.seat
 

@@ -21,7 +21,7 @@ pub record Counts : Type 0 where
   pub found : Option Asked
   pub settled : List ℕ
 
-abbrev counts_in : Account → Option Seated → Counts
+abbrev pub counts_in : Account → Option Seated → Counts
 counts_in s None = record { tries = 0; misses = 0; missed = 0; popped = None; founds = s.founds; found = s.found; settled = s.settled }
 counts_in s (Some x) =
     record { tries = x.seat.tries; misses = x.seat.misses; missed = x.seat.missed; popped = x.seat.popped; founds = s.founds; found = s.found; settled = s.settled }
@@ -30,35 +30,39 @@ abbrev pub counts_of : AtView → Counts
 counts_of v = counts_in v.book v.nano
 
 -- one more pop was made
-abbrev tried : Counts → Counts
-tried x = record x { tries = risen x.tries }
+abbrev pub with_try : Counts → Counts
+with_try x = record x { tries = risen x.tries }
 
--- and it gave this slot
-abbrev popped : Held → Counts → Counts
-popped h x = record (tried x) { popped = Some h }
+-- and it gave this slot, or missed one of class c
+abbrev pub with_pop : Held → Counts → Counts
+with_pop h x = record (with_try x) { popped = Some h }
 
--- the block has this class from now on, and had no other
-abbrev settled : ℕ → ℕ → Counts → Counts
-settled b c x = record x { settled = slice_set x.settled b c }
+abbrev pub with_miss : ℕ → Counts → Counts
+with_miss c x = record (with_try x) { misses = risen x.misses; missed = c }
 
-abbrev HasNoOther : Counts → ℕ → ℕ → Type 0
-HasNoOther x b c = (slice_index_or x.settled b 0 ≡ 0) ⊎ (slice_index_or x.settled b 0 ≡ c)
+-- the block b is known to have class c
+abbrev pub with_class : ℕ → ℕ → Counts → Counts
+with_class b c x = record x { settled = slice_set x.settled b c }
+
+-- it wasn't known to have another
+abbrev pub MayHaveClass : Counts → ℕ → ℕ → Type 0
+MayHaveClass x b c = (slice_index_or x.settled b 0 ≡ 0) ⊎ (slice_index_or x.settled b 0 ≡ c)
 
 -- another word was found than was asked for
-abbrev found_otherwise : Asked → Counts → Counts
-found_otherwise asked x = record x { founds = one_more x.founds; found = Some asked }
+abbrev pub with_found : Asked → Counts → Counts
+with_found asked x = record x { founds = one_more x.founds; found = Some asked }
 
 -- A request of class c tried nano once, and got this slot or none. It got none where the pop missed, where the popped slot's block has
 -- another class, and where the slot's word isn't 0. The book knows no more classes than before, but for that of the popped slot's block.
 pub data Tried (c : ℕ) (x : Counts) (slot : Option Held) (y : Counts) : Type 0 where
-  served : (b j : ℕ) → slot ≡ Some (held b j c) → HasNoOther x b c → y ≡ settled b c (popped (held b j c) x) → Tried c x slot y
-  missed : slot ≡ None → y ≡ record (tried x) { misses = risen x.misses; missed = c } → Tried c x slot y
-  of_another_class : (b j : ℕ) → slot ≡ None → y ≡ found_otherwise (Settle b c) (popped (held b j c) x) → Tried c x slot y
-  not_idle :
-      (b j : ℕ) → slot ≡ None → HasNoOther x b c → y ≡ found_otherwise (HoldLight b j 0) (settled b c (popped (held b j c) x))
+  by_pop : (b j : ℕ) → slot ≡ Some (held b j c) → MayHaveClass x b c → y ≡ with_class b c (with_pop (held b j c) x) → Tried c x slot y
+  by_miss : slot ≡ None → y ≡ with_miss c x → Tried c x slot y
+  by_class : (b j : ℕ) → slot ≡ None → y ≡ with_found (Settle b c) (with_pop (held b j c) x) → Tried c x slot y
+  by_word :
+      (b j : ℕ) → slot ≡ None → MayHaveClass x b c → y ≡ with_found (HoldLight b j 0) (with_class b c (with_pop (held b j c) x))
       → Tried c x slot y
 
-abbrev has_nano : Option Seated → Bool
+abbrev pub has_nano : Option Seated → Bool
 has_nano None = false
 has_nano (Some x) = true
 
@@ -67,7 +71,7 @@ abbrev pub is_for_nano : AtView → ℕ → ℕ → ℕ → Bool
 is_for_nano v z n al = has_nano v.nano && (z == 0) && nat_le n 256 && (al == 16)
 
 -- a request that isn't one for nano counts nothing, and gets no slot
-abbrev TriesIf : Bool → ℕ → Counts → Option Held → Counts → Type 0
+abbrev pub TriesIf : Bool → ℕ → Counts → Option Held → Counts → Type 0
 TriesIf true c x slot y = Tried c x slot y
 TriesIf false c x slot y = (slot ≡ None) × (y ≡ x)
 

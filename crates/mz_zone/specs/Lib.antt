@@ -4,7 +4,10 @@ pub mod Inners
 pub mod Numbers
 pub mod Calling
 pub mod Counts
+pub mod Making
+pub mod ZoneLaws
 pub mod Answering
 pub mod Freeing
 pub mod Moving
 pub mod Batches
+pub mod Resizing

@@ -15,11 +15,11 @@ use Rattle.mz_zone.specs.Answering.{Answers, IsAnswer, HasGotSlot, block_got, sl
 use Rattle.mz_zone.specs.Freeing.{Frees}
 
 -- all bytes of the block are known
-abbrev known : BlockView → Bytes
+abbrev pub known : BlockView → Bytes
 known b = map (λ x. Some x) b.span.bytes
 
 -- b with other bytes: its zone, its first address and its slot are those of b
-abbrev at_its_place : BlockView → List ℕ → BlockView
+abbrev pub at_its_place : BlockView → List ℕ → BlockView
 at_its_place b bytes = record b { span = record b.span { bytes = bytes } }
 
 -- The block stays where it is, and keeps its bytes as far as both sizes go. Nothing is counted.
@@ -38,12 +38,12 @@ pub record IsBefore (v : AtView) (mine : List Entry) (t : ℕ) : Type 0 where
   pub none_noted : (e : Entry) → Contains mine e → t ≤ e.ticket
 
 -- the new block has what was asked of the old one's bytes
-abbrev CopiesBytes : BlockView → ℕ → Result BlockView Null → Type 0
+abbrev pub CopiesBytes : BlockView → ℕ → Result BlockView Null → Type 0
 CopiesBytes b n (Ok d) = IsTrue (is_shown_as (kept_in_move n (length d.span.bytes) (known b)) d.span.bytes)
 CopiesBytes b n (Err e) = Unit {0}
 
 -- the hand has the slot of a new block of nano, and not that of the old one; where no block came it is as before
-abbrev hand_moved : BlockView → Result BlockView Null → List Held → List Held
+abbrev pub hand_moved : BlockView → Result BlockView Null → List Held → List Held
 hand_moved b (Ok d) hand = hand_without b (hand_with d hand)
 hand_moved b (Err e) hand = hand
 

@@ -8,6 +8,7 @@ ghost use Rattle.mz_zone.specs.Freeing.{Frees, FreesOfSize};
 use crate::at::At;
 use crate::block::{Block, Inner};
 use crate::fault::{NotLiveBlock, SizeFault};
+use crate::laws::{of_book, of_zones};
 use crate::nano::{end_block, put_back};
 use crate::zone::Zone;
 use mz_base::route;
@@ -30,6 +31,7 @@ impl Zone {
         ensures references { KeepsReferences at.old at.new }
         ensures frees { Frees (seen B.account at.old) self.now.zone b result (seen B.account at.new) }
     {
+        of_zones();
         match b.inner {
             Inner::Lot(lot) => match self.rack.free(rt, at.book, lot) {
                 Ok(()) => Ok(()),
@@ -55,6 +57,8 @@ impl Zone {
         ensures references { KeepsReferences at.old at.new }
         ensures frees { Frees (seen B.account at.old) self.now.zone (of_slot slot) result (seen B.account at.new) }
     {
+        of_zones();
+        of_book(at.book);
         if self.zone != 0 {
             let ticket = at.book.note(Event::No {
                 k: Place::Nano,

@@ -1,7 +1,10 @@
 //! The call that gives a block another size.
-ghost use Rattle.std.specs.Prelude.{◌≡◌, ◌<◌, ◌≤◌, Some, IfSome};
+ghost use Rattle.std.specs.Prelude.{◌≡◌, ◌<◌, ◌≤◌, length, IfSome};
 ghost use Rattle.mz_zone.specs.Calling.{seen, CanCall, IsHandedIn, KeepsReferences};
+ghost use Rattle.mz_rack.specs.Serving.{CanServe};
+ghost use Rattle.mz_rack.specs.Freeing.{IsFreeable};
 ghost use Rattle.mz_zone.specs.Moving.{Reallocs};
+ghost use Rattle.mz_zone.specs.Resizing.{ResizesLot, StaysIf, MovesNow, MovesTo, CopiesInto};
 
 use crate::at::At;
 use crate::block::{Block, Inner};
@@ -19,7 +22,13 @@ fn resize<B: Book<Keeper>, R: Wait>(
     book: &mut B,
     lot: &mut Lot,
     n: u64,
-) -> bool {
+) -> bool
+    requires can { CanServe (B.account book.old) rack.now.profile rack.now.zone 1 }
+    requires lot { IsFreeable (B.account book.old) lot.old }
+    requires of_zone { lot.old.zone ≡ rack.now.zone }
+    requires some { 0 < n }
+    ensures { ResizesLot (B.account book.old) lot.old n result lot.new (B.account book.new) }
+{
     let (_, _, _, _, _) = (rack, rt, book, lot, n);
     false
 }
@@ -63,7 +72,14 @@ impl Zone {
         at: &mut At<B>,
         b: &mut Block,
         n: u64,
-    ) -> bool {
+    ) -> bool
+        requires can { CanCall (seen B.account at.old) self.now.profile self.now.zone 40 }
+        requires block { IsHandedIn (seen B.account at.old) b.old }
+        requires of_zone { b.old.zone ≡ self.now.zone }
+        requires some { 0 < n }
+        ensures references { KeepsReferences at.old at.new }
+        ensures stays { StaysIf (seen B.account at.old) b.old n result b.new (seen B.account at.new) }
+    {
         match &mut b.inner {
             Inner::Lot(lot) => resize(&self.rack, rt, at.book, lot, n),
             Inner::Slot(slot) => n <= 256 && units(n) == slot.class(),
@@ -77,7 +93,14 @@ impl Zone {
         at: &mut At<B>,
         b: Block,
         n: u64,
-    ) -> Result<Block, ReallocFault> {
+    ) -> Result<Block, ReallocFault>
+        requires can { CanCall (seen B.account at.old) self.now.profile self.now.zone 40 }
+        requires block { IsHandedIn (seen B.account at.old) b }
+        requires of_zone { b.zone ≡ self.now.zone }
+        requires moves { MovesNow (seen B.account at.old) b n }
+        ensures references { KeepsReferences at.old at.new }
+        ensures moves { MovesTo (seen B.account at.old) self.now.zone b n result (seen B.account at.new) }
+    {
         let mut new = match self.malloc(rt, at, n) {
             Ok(new) => new,
             Err(null) => {
@@ -96,7 +119,10 @@ impl Zone {
 }
 
 // Copies the first `n` bytes, as many as there are.
-fn copy(from: &Block, to: &mut Block, n: u64) {
+fn copy(from: &Block, to: &mut Block, n: u64)
+    requires { n ≤ length to.old.span.bytes }
+    ensures { CopiesInto n from.now to.old to.new }
+{
     let len = from.size().min(n) as usize;
     to.bytes_mut()[..len].copy_from_slice(&from.bytes()[..len]);
 }

@@ -12,6 +12,7 @@ ghost use Rattle.mz_zone.specs.Answering.{Answers, Callocs, Memaligns};
 use crate::at::At;
 use crate::block::Block;
 use crate::fault::{AlignFault, CallocFault};
+use crate::laws::of_zones;
 use crate::nano::try_nano;
 use mz_base::Profile;
 use mz_book::Book;
@@ -145,6 +146,7 @@ impl Zone {
         ensures references { KeepsReferences at.old at.new }
         ensures answers { Answers (seen B.account at.old) self.now.zone n al result (seen B.account at.new) }
     {
+        of_zones();
         if let Some(slot) = try_nano(rt, at, self.zone, n, al) {
             return Ok(Block::of_slot(slot));
         }

@@ -61,7 +61,7 @@ touches_page p a n = ?
 
 pub no_duty : (laws : ZoneLaws) (p : Profile) (h : List Entry) (k c a n : ℕ) → duty_left p h (entry_at k c (End Nano a n)) ≡ None
 no_duty laws p h k c a n =
-    ap (λ v. first_some (v.duty ∷ [])) (laws.touched p (state_before p h k) c (End Nano a n) (nano_page (page_of a)) (touches_page p a n))
+    ap (λ v. first_some (v.duty ∷ [])) (laws.leaves p (state_before p h k) c (End Nano a n) (nano_page (page_of a)) (touches_page p a n))
 
 -- a block of nano is ended, and its slot put back
 pub by_nano_end :

@@ -5,7 +5,7 @@ use Rattle.mz_base.specs.Lists.{has_block}
 use Rattle.mz_base.specs.Space.{block_at}
 use Rattle.mz_events.specs.declared.event.Event.{Event}
 use Rattle.mz_events.specs.declared.event.Event.TheVariants.{New, End}
-use Rattle.mz_events.specs.declared.place.Place.TheVariants.{Nano}
+use Rattle.mz_events.specs.declared.place.Place.TheVariants as place
 use Rattle.mz_events.specs.declared.entry.Entry.{Entry}
 use Rattle.mz_events.specs.Places.{nano_start}
 use Rattle.mz_events.specs.State.{is_open}
@@ -35,10 +35,10 @@ pub record CanNoteSlot (s : Account) (x : SlotView) : Type 0 where
 
 -- the events by which the slot's block is made and ends
 abbrev pub making : SlotView → Event
-making x = New Nano x.span.first (16 * x.class) 16
+making x = New place.Nano x.span.first (16 * x.class) 16
 
 abbrev pub ending : SlotView → Event
-ending x = End Nano x.span.first (16 * x.class)
+ending x = End place.Nano x.span.first (16 * x.class)
 
 -- the record grew by just this entry, and nothing is held; what the book counts is as before
 pub record IsNoted (s : Account) (e : Event) (n : ℕ) (t : Account) : Type 0 where

@@ -26,16 +26,16 @@ use Rattle.mz_book.specs.Growth.{Adds, GrowsHolding}
 use Rattle.mz_book.specs.Lights.{slot_size, slots_of, slot_address, slot_number, page_of_block, light_at, same_light, has_light, add_light, drop_light}
 
 pub record ZoneLaws : Type 0 where
-  pub note : (s t : Account) (e : Event) (n : ℕ) → CanNote s e → changes_zones e ≡ false → Notes s e n t → GrowsHolding s (entry_at n s.caller e ∷ []) 0 t
+  pub noted : (s t : Account) (e : Event) (n : ℕ) → CanNote s e → changes_zones e ≡ false → Notes s e n t → GrowsHolding s (entry_at n s.caller e ∷ []) 0 t
   pub nothing : (s : Account) → GrowsHolding s [] 0 s
   pub added : (s t u : Account) (xs ys : List Entry) (m n : ℕ) → Adds s xs m t → Adds t ys n u → Adds s (xs ++ ys) (m + n) u
-  pub owned : (s : Account) (b : ℕ) (x : Block) → page_of x.first ≡ page_of_block s.profile b → IsTrue (has_block (hand s) x) → IsTrue (owns_slot s b (slot_number x))
-  pub fresh : (s : Account) (b j class n a : ℕ) → 1 ≤ class → j < slots_of class → n ≡ slot_size class → a ≡ slot_address s.profile b j n → owns_slot s b j ≡ false → has_block (hand s) (block_at a n) ≡ false
-  pub made : (s t : Account) (a n al k : ℕ) (may : CanMakeSlot s a n al) → Notes s (New Nano a n al) k t → (b j : ℕ) → owns_slot t b j ≡ (same_light (light_at b j) (light_at may.block may.slot) || owns_slot s b j)
-  pub ended : (s t : Account) (a n k : ℕ) (may : CanEndSlot s a n) → IsOrderly s → IsTrue (has_block (hand s) (block_at a n)) → Notes s (End Nano a n) k t → (b j : ℕ) → owns_slot t b j ≡ (not (same_light (light_at b j) (light_at may.block (slot_number (block_at a n)))) && owns_slot s b j)
-  pub taken : (lights : List Light) (l m : Light) → has_light (add_light l lights) m ≡ (same_light m l || has_light lights m)
-  pub both : (lights : List Light) (l : Light) → has_light lights l ≡ false → drop_light l (add_light l lights) ≡ lights
-  pub touched : (p : Profile) (s : State) (c : ℕ) (e : Event) (j : Spot) → touches p e j ≡ true → value_at (after p s c e) j ≡ value_after s c e j
+  pub slot_owned : (s : Account) (b : ℕ) (x : Block) → page_of x.first ≡ page_of_block s.profile b → IsTrue (has_block (hand s) x) → IsTrue (owns_slot s b (slot_number x))
+  pub slot_fresh : (s : Account) (b j class n a : ℕ) → 1 ≤ class → j < slots_of class → n ≡ slot_size class → a ≡ slot_address s.profile b j n → owns_slot s b j ≡ false → has_block (hand s) (block_at a n) ≡ false
+  pub slot_made : (s t : Account) (a n al k : ℕ) (may : CanMakeSlot s a n al) → Notes s (New Nano a n al) k t → (b j : ℕ) → owns_slot t b j ≡ (same_light (light_at b j) (light_at may.block may.slot) || owns_slot s b j)
+  pub slot_ended : (s t : Account) (a n k : ℕ) (may : CanEndSlot s a n) → IsOrderly s → IsTrue (has_block (hand s) (block_at a n)) → Notes s (End Nano a n) k t → (b j : ℕ) → owns_slot t b j ≡ (not (same_light (light_at b j) (light_at may.block (slot_number (block_at a n)))) && owns_slot s b j)
+  pub light_taken : (lights : List Light) (l m : Light) → has_light (add_light l lights) m ≡ (same_light m l || has_light lights m)
+  pub light_back : (lights : List Light) (l : Light) → has_light lights l ≡ false → drop_light l (add_light l lights) ≡ lights
+  pub leaves : (p : Profile) (s : State) (c : ℕ) (e : Event) (j : Spot) → touches p e j ≡ true → value_at (after p s c e) j ≡ value_after s c e j
   pub index : (p : Profile) (s : State) (es : List Entry) → AreLawful p s es → (i : ℕ) (e : Entry) → slice_get es i ≡ Some e → e.ticket ≡ s.entries + i
   pub calm : (p : Profile) (h : List Entry) (c : ℕ) (es : List Entry) → IsTrue (list_all (λ e. not (is_dry e.event)) es) → IsUndisturbed p h c es
   pub state_later : (p : Profile) (h later : List Entry) (n : ℕ) → AreLawful p opening (h ++ later) → n ≤ length h → state_at p (h ++ later) n ≡ state_at p h n
@@ -43,4 +43,4 @@ pub record ZoneLaws : Type 0 where
   pub dropped_later : (p : Profile) (h later : List Entry) (b : Block) (es : List Entry) → AreLawful p opening (h ++ later) → ((e : Entry) → Contains es e → Contains h e) → IsDropped p h b es → IsDropped p (h ++ later) b es
   pub same_size : (bs : Bytes) → kept_in_place (length bs) bs ≡ bs
   pub unknown : (shown : List ℕ) → is_shown_as (fresh (length shown)) shown ≡ true
-  pub least : (n : ℕ) → IsLeastSize (route_of n) n (good_size_of n)
+  pub good_size : (n : ℕ) → IsLeastSize (route_of n) n (good_size_of n)

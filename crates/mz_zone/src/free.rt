@@ -71,11 +71,11 @@ impl Zone {
                 ticket,
             });
         }
-        let Some((nano, seat)) = &mut at.nano else {
+        let Some(both) = &mut at.nano else {
             unreachable!()
         };
         end_block(at.book, &slot);
-        put_back(rt, nano, seat, slot);
+        put_back(rt, both.0, both.1, slot);
         Ok(())
     }
 

@@ -45,10 +45,10 @@ pub(crate) fn try_nano<B: Book<Keeper>, R: Wait>(
     if zone != 0 || n > MOST || al != QUANTUM {
         return None;
     }
-    let Some((nano, seat)) = &mut at.nano else {
+    let Some(both) = &mut at.nano else {
         return None;
     };
-    take_block(rt, at.book, nano, seat, units(n))
+    take_block(rt, at.book, both.0, both.1, units(n))
 }
 
 // Pops a slot of the class and makes it a live block. A slot that can't be one goes back.
@@ -127,11 +127,11 @@ pub(crate) fn put_back<R: Wait>(rt: &R, nano: &Nano, seat: &mut NanoSeat, slot: 
     requires place { (slot.span.space ≡ space_of nano.now) × (slot.base ≡ first_of nano.now) }
     ensures { IsPutBack nano.now seat.old slot seat.new }
 {
-    let mut slot = slot;
+    let mut left = slot;
     for _ in rt.forever() {
-        match nano.push(seat, slot) {
+        match nano.push(seat, left) {
             Ok(()) => return,
-            Err(contended) => slot = contended.slot,
+            Err(contended) => left = contended.slot,
         }
     }
     unreachable!()

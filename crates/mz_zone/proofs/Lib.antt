@@ -3,3 +3,4 @@ pub mod SlotArithmetic
 pub mod NanoMaking
 pub mod Serving
 pub mod Freed
+pub mod Taking

@@ -1,4 +1,4 @@
-use Rattle.std.proofs.Common.{◌≡◌, ℕ, sym, ◌∙◌}
+use Rattle.std.proofs.Common.{◌≡◌, ℕ, sym, ◌∙◌, arith}
 use Rattle.mz_book.specs.Account.{Account}
 use Rattle.mz_book.specs.Calls.{IsLit, IsUnlit}
 use Rattle.mz_zone.proofs.NanoMaking.{may_relight, may_note_end, may_unlight_end, has_ended}
@@ -10,7 +10,12 @@ hold_light-requires g c =
     (may_relight c.of_zones.ensures (g.B.Book.account c.args.book.now) c.args.slot.now c.of_book.ensures c.requires.can c.requires.in_hand)
 
 pub unreachable-requires : goal.unreachable-requires
-unreachable-requires g c = ?
+unreachable-requires g c =
+    let un : IsUnlit (g.B.Book.account c.args.book.now) c.block.result c.slot.result 1 _ (g.B.Book.account c.hold_light.new.self) = c.in_default.ensures in
+    none un.idle
+  where
+    none : ◌≡◌ {A = ℕ} 1 0 → ⊥
+    none e = omega arith
 
 pub note-requires : goal.note-requires
 note-requires g c =

@@ -36,16 +36,16 @@ same_counts p q r s t u v = cc
 -- a slot that isn't in the hand leaves it as it is
 absent : (b j : ℕ) (hs : List Held) → ((k : ℕ) → In (held b j k) hs → ⊥) → without b j hs ≡ hs
 absent b j [] n = refl
-absent b j (h ∷ hs) n = by_test (is_at b j h) refl
+absent b j (h ∷ hs) n = by_test (is_at b j h) refl (absent b j hs (λ k i. n k (inr i)))
   where
     at_it : is_at b j h ≡ true → held b j h.class ≡ h
     at_it e =
         let t = and_parts (h.block == b) (h.slot == j) e in
         ap (λ i. held i j h.class) (sym (eqb-true h.block b t.0)) ∙ ap (λ i. held h.block i h.class) (sym (eqb-true h.slot j t.1))
 
-    by_test : (t : Bool) → is_at b j h ≡ t → without b j (h ∷ hs) ≡ h ∷ hs
-    by_test true e = absurd (n h.class (inl (at_it e)))
-    by_test false e = rw e (ap (λ (xs : List Held). h ∷ xs) (absent b j hs (λ k i. n k (inr i))))
+    by_test : (t : Bool) → is_at b j h ≡ t → without b j hs ≡ hs → without b j (h ∷ hs) ≡ h ∷ hs
+    by_test true e rest = absurd (n h.class (inl (at_it e)))
+    by_test false e rest = rw e (ap (λ (xs : List Held). h ∷ xs) rest)
 
 back_again : (b j k : ℕ) (hs : List Held) → ((c : ℕ) → In (held b j c) hs → ⊥) → without b j (held b j k ∷ hs) ≡ hs
 back_again b j k hs n = let t : is_at b j (held b j k) ≡ true = grind (arith, nat_tests) in rw t (absent b j hs n)

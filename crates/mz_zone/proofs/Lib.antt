@@ -4,3 +4,4 @@ pub mod NanoMaking
 pub mod Serving
 pub mod Freed
 pub mod Taking
+pub mod Trying

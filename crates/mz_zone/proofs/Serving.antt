@@ -1,5 +1,5 @@
 -- How a request is answered, by nano or by the rack.
-use Rattle.std.proofs.Common.{◌≡◌, ℕ, ◌+◌, ◌*◌, ◌<◌, ◌≤◌, Bool, true, false, List, [], ◌∷◌, ◌++◌, Option, None, Some, refl, ap, sym, subst, ◌∙◌, rules, arith, mul_comm}
+use Rattle.std.proofs.Common.{◌≡◌, ℕ, ◌+◌, ◌-◌, ◌*◌, ◌<◌, ◌≤◌, Bool, true, false, List, [], ◌∷◌, ◌++◌, Option, None, Some, refl, ap, sym, subst, ◌∙◌, rules, arith, mul_comm}
 use Rattle.std.specs.Prelude.{Result, Ok, Err, nat_le, ◌&&◌, ◌==◌, ◌||◌, not, IsTrue, map}
 use Rattle.std.specs.List.{list_any, list_all}
 use Rattle.std.proofs.lemmas.Bool.{and_parts, false≢true}
@@ -16,26 +16,25 @@ use Rattle.mz_events.specs.declared.place.Place.TheVariants.{Nano}
 use Rattle.mz_events.specs.Places.{is_nano}
 use Rattle.mz_events.specs.declared.entry.Entry.{Entry}
 use Rattle.mz_record.specs.Served.{Serves, by_nano, events, is_dry}
-use Rattle.mz_book.specs.Account.{Account, HoldsNothing, entry_at}
+use Rattle.mz_events.specs.State.{is_open}
+use Rattle.mz_book.specs.Account.{Account, HoldsNothing, entry_at, state_of}
 use Rattle.mz_book.specs.Calls.{is_at_nano}
 use Rattle.mz_book.specs.Growth.{Adds, Grows}
 use Rattle.mz_rack.specs.declared.lot.Null.{Null}
 use Rattle.mz_rack.specs.Lots.{LotView}
 use Rattle.mz_rack.specs.Serving.{Answers as Racked, CanServe}
 use Rattle.mz_rack.specs.Ways.{request_of}
-use Rattle.mz_nano.specs.SlotViews.{SlotView}
+use Rattle.mz_nano.specs.SlotViews.{SlotView, IsPlaced}
 use Rattle.mz_zone.specs.Blocks.{BlockView, of_lot, of_slot}
 use Rattle.mz_zone.specs.Calling.{AtView, Seated, CanCall, IsSeatedAt, Goes, StaysSeated, apart_from_nano, hand_at}
 use Rattle.mz_zone.specs.Counts.{Counts, Tried, Tries, TriesIf, has_nano, is_for_nano, counts_of, counts_in}
 use Rattle.mz_zone.specs.Making.{Takes, TakesFor, TakesIf, Makes, making, held_of}
 use Rattle.mz_zone.specs.Answering.{Answers, makes_slot}
 use Rattle.mz_zone.specs.ZoneLaws.{ZoneLaws}
+use Rattle.mz_zone.proofs.Trying.{route_small}
 use Rattle.mz_zone.proofs.Going.{goes_on, adds_apart, goes_nowhere, seat_stays}
 
 -- a request of at most 256 bytes has 16 for each unit
-route_small : (n : ℕ) → n ≤ 256 → route_of n ≡ range.Tiny
-route_small n h = let t : nat_le n 1008 ≡ true = grind (arith, nat_tests) in rw t
-
 nano_size : (n : ℕ) → n ≤ 256 → good_size_of n ≡ 16 * units_of n
 nano_size n h = ap (λ r. units_of n * unit_of r) (route_small n h) ∙ mul_comm (units_of n) 16
 
@@ -90,6 +89,16 @@ module _ (laws : ZoneLaws) (v w : AtView) (p : Profile) (z n al : ℕ) (can : Ca
   pub by_slot : (x : SlotView) → TakesFor v z n al (Some x) w → Answers v z n al (Ok (of_slot x)) w
   by_slot x h = by_flag x (is_for_nano v z n al) refl h
 
+  placed_flag : (x : SlotView) (flag : Bool) → TakesIf flag v (units_of n) (Some x) w → IsPlaced x
+  placed_flag x true t = t.slot.2
+  placed_flag x false t = absurd (some_none t.0)
+    where
+      some_none : Some x ≡ None → ⊥
+      some_none q = cc
+
+  pub slot_placed : (x : SlotView) → TakesFor v z n al (Some x) w → IsPlaced x
+  slot_placed x h = placed_flag x (is_for_nano v z n al) h
+
   -- nano didn't, and all is as before, but for what was counted
   pub record IsPassed : Type 0 where
     pub goes : Goes v [] w
@@ -111,16 +120,39 @@ module _ (laws : ZoneLaws) (v w : AtView) (p : Profile) (z n al : ℕ) (can : Ca
   pub passed : TakesFor v z n al None w → IsPassed
   passed h = passed_flag (is_for_nano v z n al) refl h
 
+-- the rack may be asked then
+pub can_serve :
+    (v u : AtView) (p q : Profile) (y z : ℕ) → CanCall v p z 40 → Goes v [] u → q ≡ p → y ≡ z → CanServe u.book q y 36
+can_serve v u p q y z can goes of_profile of_zone = record {
+  profile = goes.adds.same.profile ∙ (can.serve.profile ∙ sym of_profile);
+  zone_open = subst (λ i. IsTrue (is_open (state_of u.book) i)) (sym of_zone) (goes.adds.zones z ∙ can.serve.zone_open);
+  nothing_held = goes.nothing_held;
+  room = let e : u.book.spare ≡ v.book.spare - 0 = goes.adds.spare in let r : 40 ≤ v.book.spare = can.serve.room in omega arith;
+}
+
+-- a call for which there is room may be made
+pub can_try : (v : AtView) (p : Profile) (z : ℕ) → CanCall v p z 40 → CanCall v v.book.profile z 1
+can_try v p z can = record {
+  serve = record {
+    profile = refl; zone_open = can.serve.zone_open; nothing_held = can.serve.nothing_held;
+    room = let r : 40 ≤ v.book.spare = can.serve.room in omega arith;
+  };
+  nano = can.nano;
+}
+
 -- a lot of the rack is a block of the zone
 abbrev pub as_block : Result LotView Null → Result BlockView Null
 as_block (Ok l) = Ok (of_lot l)
 as_block (Err e) = Err e
 
-no_slot_made : (k : Place) → not (is_nano k) ≡ true → is_nano k ≡ false
-no_slot_made k h = ?
+not_true : (b : Bool) → not b ≡ true → b ≡ false
+not_true true h = absurd (false≢true h)
+not_true false h = refl
 
+-- an event that isn't at nano makes no block there
 outside : (e : Event) → not (is_at_nano e) ≡ true → makes_slot e ≡ false
-outside e h = ?
+outside (New k a n al) h = not_true (is_nano k) h
+outside _ h = refl
 
 all_outside : (es : List Entry) → list_all (λ e. not (is_at_nano e.event)) es ≡ true → list_any (λ e. makes_slot e.event) es ≡ false
 all_outside [] h = refl

@@ -47,7 +47,7 @@ seat_stays None (Some y) h = absurd h
 seat_stays (Some x) None h = absurd h
 seat_stays (Some x) (Some y) h = (refl, h.1, refl)
 
-seated_stays : (s : Account) (a : Option Seated) → IsSeatedAt s a → StaysSeated a a
+pub seated_stays : (s : Account) (a : Option Seated) → IsSeatedAt s a → StaysSeated a a
 seated_stays s None h = tt
 seated_stays s (Some x) h = (refl, h.seat, refl)
 

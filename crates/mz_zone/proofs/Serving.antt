@@ -160,7 +160,7 @@ all_outside (e ∷ es) h =
     let a = and_parts (not (is_at_nano e.event)) (list_all (λ x. not (is_at_nano x.event)) es) h in
     rw (outside e.event a.0) (all_outside es a.1)
 
-same_counts : (s t : Account) (nano : Option Seated) → t.settled ≡ s.settled → t.founds ≡ s.founds → t.found ≡ s.found → counts_in t nano ≡ counts_in s nano
+pub same_counts : (s t : Account) (nano : Option Seated) → t.settled ≡ s.settled → t.founds ≡ s.founds → t.found ≡ s.found → counts_in t nano ≡ counts_in s nano
 same_counts s t None a b d = cc
 same_counts s t (Some x) a b d = cc
 

@@ -16,11 +16,16 @@ use Rattle.mz_events.specs.Places.{nano_page, nano_start}
 use Rattle.mz_events.specs.Effect.{touches}
 use Rattle.mz_record.specs.Moments.{state_before, duty_left, first_some}
 use Rattle.mz_base.specs.Lists.{has_block}
-use Rattle.mz_book.specs.Account.{Account, HoldsNothing, entry_at, hand}
+use Rattle.mz_book.specs.Account.{Account, HoldsNothing, entry_at, hand, state_of}
 use Rattle.mz_book.specs.Calls.{CanNote, Notes}
 use Rattle.mz_rack.specs.declared.lot.NotLive.{NotLive}
 use Rattle.mz_rack.specs.Lots.{LotView}
-use Rattle.mz_rack.specs.Freeing.{Frees as Racked}
+use Rattle.mz_rack.specs.Serving.{CanServe}
+use Rattle.mz_rack.specs.Freeing.{Frees as Racked, IsFreeable}
+use Rattle.mz_zone.specs.declared.block.Inner.{Inner}
+use Rattle.mz_zone.specs.declared.block.Inner.TheVariants as inner
+use Rattle.mz_zone.specs.Inners.{view_of}
+use Rattle.mz_events.specs.State.{is_open}
 use Rattle.mz_nano.specs.declared.nano.Nano.{Nano}
 use Rattle.mz_nano.specs.declared.seat.NanoSeat.{NanoSeat}
 use Rattle.mz_nano.specs.declared.view.Geometry.{Geometry}
@@ -40,6 +45,25 @@ use Rattle.mz_zone.proofs.Going.{goes_nowhere, adds_apart, seated_stays}
 use Rattle.mz_zone.proofs.SlotArithmetic.{slot_page}
 use Rattle.mz_zone.proofs.Serving.{after, rack_goes, rack_counts, same_counts as counts_stay}
 use Rattle.mz_zone.proofs.Taking.{same_counts}
+
+-- a block that is made of a lot, or of a slot
+pub of_its_lot : (i : Inner) (l : LotView) (b : BlockView) → i ≡ inner.Lot l → view_of i ≡ b → b ≡ of_lot l
+of_its_lot i l b e h = sym h ∙ ap view_of e
+
+pub of_its_slot : (i : Inner) (x : SlotView) (b : BlockView) → i ≡ inner.Slot x → view_of i ≡ b → b ≡ of_slot x
+of_its_slot i x b e h = sym h ∙ ap view_of e
+
+-- the rack may be handed the lot
+pub can_hand : (v : AtView) (p q : Profile) (y z : ℕ) → CanCall v p z 40 → q ≡ p → y ≡ z → CanServe v.book q y 3
+can_hand v p q y z can of_profile of_zone = record {
+  profile = can.serve.profile ∙ sym of_profile;
+  zone_open = subst (λ i. IsTrue (is_open (state_of v.book) i)) (sym of_zone) can.serve.zone_open;
+  nothing_held = can.serve.nothing_held;
+  room = let r : 40 ≤ v.book.spare = can.serve.room in omega arith;
+}
+
+pub freeable : (v : AtView) (l : LotView) → IsHandedIn v (of_lot l) → IsFreeable v.book l
+freeable v l h = record { in_hand = h.in_hand; zone = h.zone; zone_open = h.zone_open; space = h.space }
 
 -- a lot that the rack hands back is a block that the zone does
 abbrev pub back : NotLive → NotLiveBlock

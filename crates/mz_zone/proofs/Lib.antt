@@ -5,3 +5,6 @@ pub mod Serving
 pub mod Freed
 pub mod Taking
 pub mod Trying
+pub mod Aligned
+pub mod Enough
+pub mod Clearing

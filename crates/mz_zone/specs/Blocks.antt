@@ -32,6 +32,10 @@ block_of b = block_at b.span.first (length b.span.bytes)
 abbrev pub with_block_bytes : BlockView → List ℕ → BlockView
 with_block_bytes b ws = record b { span = with_bytes b.span ws }
 
+-- b with other bytes: its zone, its first address and its slot are those of b
+abbrev pub at_its_place : BlockView → List ℕ → BlockView
+at_its_place b bytes = record b { span = record b.span { bytes = bytes } }
+
 -- a seat's hand with the slot of a block, where it is a block of nano
 abbrev pub slot_added : Option Held → List Held → List Held
 slot_added None hand = hand

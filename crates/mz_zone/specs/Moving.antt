@@ -8,7 +8,7 @@ use Rattle.mz_rack.specs.declared.lot.Null.{Null}
 use Rattle.mz_nano.specs.declared.view.Held.{Held}
 use Rattle.mz_zone.specs.declared.fault.ReallocFault.{ReallocFault}
 use Rattle.mz_zone.specs.declared.fault.ReallocFault.TheVariants as fault
-use Rattle.mz_zone.specs.Blocks.{BlockView, block_of, hand_with, hand_without}
+use Rattle.mz_zone.specs.Blocks.{BlockView, block_of, at_its_place, hand_with, hand_without}
 use Rattle.mz_zone.specs.Calling.{AtView, Goes, hand_at}
 use Rattle.mz_zone.specs.Counts.{Tries, counts_of}
 use Rattle.mz_zone.specs.Answering.{Answers, IsAnswer, HasGotSlot, block_got, slot_got}
@@ -17,10 +17,6 @@ use Rattle.mz_zone.specs.Freeing.{Frees}
 -- all bytes of the block are known
 abbrev pub known : BlockView → Bytes
 known b = map (λ x. Some x) b.span.bytes
-
--- b with other bytes: its zone, its first address and its slot are those of b
-abbrev pub at_its_place : BlockView → List ℕ → BlockView
-at_its_place b bytes = record b { span = record b.span { bytes = bytes } }
 
 -- The block stays where it is, and keeps its bytes as far as both sizes go. Nothing is counted.
 pub record Stays (v : AtView) (b : BlockView) (n : ℕ) (d : BlockView) (w : AtView) : Type 0 where

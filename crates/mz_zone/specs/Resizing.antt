@@ -8,10 +8,10 @@ use Rattle.mz_book.specs.Growth.{Grows}
 use Rattle.mz_rack.specs.Lots.{LotView}
 use Rattle.mz_zone.specs.declared.fault.ReallocFault.{ReallocFault}
 use Rattle.mz_zone.specs.declared.fault.ReallocFault.TheVariants as fault
-use Rattle.mz_zone.specs.Blocks.{BlockView, block_of, of_lot}
+use Rattle.mz_zone.specs.Blocks.{BlockView, block_of, at_its_place, with_block_bytes, of_lot}
 use Rattle.mz_zone.specs.Calling.{AtView, Goes, hand_at}
 use Rattle.mz_zone.specs.Counts.{counts_of}
-use Rattle.mz_zone.specs.Moving.{Stays, MovesOn, known, at_its_place}
+use Rattle.mz_zone.specs.Moving.{Stays, MovesOn, known}
 
 -- the block has to move, as the book's last state says
 abbrev pub MovesAfter : Account → BlockView → ℕ → Type 0
@@ -63,4 +63,4 @@ MovesTo v z b n (Err (fault.Null c e)) w = (c ≡ Some b) × MovesOn v z b n (Er
 -- the first n bytes of the first block, as many as it has, are those of the second from now on
 abbrev pub CopiesInto : ℕ → BlockView → BlockView → BlockView → Type 0
 CopiesInto n from to d =
-    let k = min (length from.span.bytes) n in d ≡ at_its_place to (take k from.span.bytes ++ drop k to.span.bytes)
+    let k = min (length from.span.bytes) n in d ≡ with_block_bytes to (take k from.span.bytes ++ drop k to.span.bytes)

@@ -1,8 +1,10 @@
 -- The laws on which the calls of a zone rest, together.
-use Rattle.std.specs.Prelude.{◌≡◌, ℕ, ◌+◌, ◌<◌, ◌≤◌, true, false, Bool, not, ◌&&◌, ◌||◌, List, [], ◌∷◌, ◌++◌, length, take, Option, Some, slice_get, IsTrue, Contains}
+use Rattle.std.specs.Prelude.{◌≡◌, ℕ, ◌+◌, ◌<◌, ◌≤◌, true, false, Bool, not, ◌&&◌, ◌||◌, List, [], ◌∷◌, ◌++◌, length, take, Option, Some, slice_get, IsTrue, Contains, ◌↔◌}
 use Rattle.std.specs.List.{list_all}
 use Rattle.mz_base.specs.declared.profile.Profile.{Profile}
-use Rattle.mz_base.specs.Space.{Block, block_at, page_of}
+use Rattle.mz_base.specs.Space.{Block, Run, block_at, page_of}
+use Rattle.mz_events.specs.Room.{best_fit}
+use Rattle.mz_events.specs.BestFit.{IsBestFit}
 use Rattle.mz_base.specs.Lists.{has_block}
 use Rattle.mz_base.specs.Sizes.{route_of, good_size_of}
 use Rattle.mz_base.specs.Laws.{IsLeastSize}
@@ -44,3 +46,4 @@ pub record ZoneLaws : Type 0 where
   pub same_size : (bs : Bytes) → kept_in_place (length bs) bs ≡ bs
   pub unknown : (shown : List ℕ) → is_shown_as (fresh (length shown)) shown ≡ true
   pub good_size : (n : ℕ) → IsLeastSize (route_of n) n (good_size_of n)
+  pub best : (cached : List Run) (w : ℕ) (r : Run) → (best_fit cached w ≡ Some r) ↔ IsBestFit cached w r

@@ -23,6 +23,7 @@ pub(crate) fn of_zones()
     mz_record::laws::later_entries();
     mz_record::laws::bytes_are_kept();
     mz_base::laws::good_size_is_least();
+    mz_events::laws::best_fits();
 }
 
 /// What holds of every book.

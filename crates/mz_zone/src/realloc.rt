@@ -1,5 +1,5 @@
 //! The call that gives a block another size.
-ghost use Rattle.std.specs.Prelude.{◌≡◌, ◌<◌, ◌≤◌, length, IfSome};
+ghost use Rattle.std.specs.Prelude.{◌≡◌, ◌<◌, ◌≤◌, ◌++◌, length, drop, IfSome};
 ghost use Rattle.mz_zone.specs.Calling.{seen, CanCall, IsHandedIn, KeepsReferences};
 ghost use Rattle.mz_rack.specs.Serving.{CanServe};
 ghost use Rattle.mz_rack.specs.Freeing.{IsFreeable};
@@ -123,6 +123,15 @@ fn copy(from: &Block, to: &mut Block, n: u64)
     requires { n ≤ length to.old.span.bytes }
     ensures { CopiesInto n from.now to.old to.new }
 {
-    let len = from.size().min(n) as usize;
-    to.bytes_mut()[..len].copy_from_slice(&from.bytes()[..len]);
+    let bytes = from.bytes();
+    let len = bytes.len().min(n as usize);
+    write_front(to.bytes_mut(), &bytes[..len]);
+}
+
+// Writes bytes over the first of others.
+fn write_front(to: &mut [u8], from: &[u8])
+    requires { length from.now ≤ length to.old }
+    ensures { to.new ≡ from.now ++ drop (length from.now) to.old }
+{
+    to[..from.len()].copy_from_slice(from);
 }

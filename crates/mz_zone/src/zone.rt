@@ -1,5 +1,5 @@
 //! A zone, and the calls that make blocks.
-ghost use Rattle.std.specs.Prelude.{◌≡◌, ◌<◌, ◌≤◌, IfOk};
+ghost use Rattle.std.specs.Prelude.{◌≡◌, ◌<◌, ◌≤◌, ◌++◌, ◌↔◌, length, replicate, drop, IfOk, IsTrue};
 ghost use Rattle.std.specs.Coded.{Coded-set};
 ghost use Rattle.std.specs.Int.{IsPowerOfTwo};
 ghost use Rattle.mz_base.specs.Limits.{IsWithinLimits, IsFrom};
@@ -7,7 +7,8 @@ ghost use Rattle.mz_base.specs.Codes.{limits_once};
 ghost use Rattle.mz_base.specs.Sizes.{good_size_within};
 ghost use Rattle.mz_zone.specs.Profiles.{profile_code};
 ghost use Rattle.mz_zone.specs.Calling.{seen, CanCall, KeepsReferences};
-ghost use Rattle.mz_zone.specs.Answering.{Answers, Callocs, Memaligns};
+ghost use Rattle.mz_zone.specs.Blocks.{with_block_bytes};
+ghost use Rattle.mz_zone.specs.Answering.{Answers, Callocs, IsAlignment, Memaligns};
 
 use crate::at::At;
 use crate::block::Block;
@@ -99,12 +100,13 @@ impl Zone {
         ensures references { KeepsReferences at.old at.new }
         ensures answers { Callocs (seen B.account at.old) self.now.zone n m result (seen B.account at.new) }
     {
+        of_zones();
         let Some(len) = n.checked_mul(m) else {
             return Err(CallocFault::Overflow);
         };
         match self.serve(rt, at, len, QUANTUM) {
             Ok(mut block) => {
-                block.bytes_mut()[..len as usize].fill(0);
+                clear(&mut block, len);
                 Ok(block)
             }
             Err(null) => Err(CallocFault::Null(null)),
@@ -123,7 +125,7 @@ impl Zone {
         ensures references { KeepsReferences at.old at.new }
         ensures answers { Memaligns (seen B.account at.old) self.now.zone al n result (seen B.account at.new) }
     {
-        if !al.is_power_of_two() || al < 8 || al > PAGE {
+        if !is_alignment(al) {
             return Err(AlignFault::BadAlign);
         }
         match self.serve(rt, at, n, al.max(QUANTUM)) {
@@ -155,4 +157,30 @@ impl Zone {
             Err(null) => Err(null),
         }
     }
+}
+
+// Whether this may be asked for as an alignment.
+fn is_alignment(al: u64) -> bool
+    ensures { IsTrue result ↔ IsAlignment al }
+{
+    if al < 8 || al > PAGE {
+        return false;
+    }
+    al.next_power_of_two() == al
+}
+
+// Makes the first `n` bytes 0.
+fn clear(block: &mut Block, n: u64)
+    requires { n ≤ length block.old.span.bytes }
+    ensures { block.new ≡ with_block_bytes block.old (replicate n 0 ++ drop n block.old.span.bytes) }
+{
+    clear_front(block.bytes_mut(), n as usize);
+}
+
+// Makes the first `n` of these bytes 0.
+fn clear_front(bytes: &mut [u8], n: usize)
+    requires { n ≤ length bytes.old }
+    ensures { bytes.new ≡ replicate n 0 ++ drop n bytes.old }
+{
+    bytes[..n].fill(0);
 }

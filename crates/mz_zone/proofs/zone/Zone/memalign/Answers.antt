@@ -1,7 +1,8 @@
+use Rattle.std.proofs.Common.{◌≡◌, Ok, Err, max, subst}
+use Rattle.mz_zone.specs.Calling.{AtView, seen}
+use Rattle.mz_zone.specs.Answering.{Answers, IsAlignment}
+use Rattle.mz_zone.proofs.Aligned.{power_raised}
 use Rattle.mz_zone.proofs.zone.Zone.memalign.Goals as goal
-
-pub returns-then-not-is_power_of_two-clause-answers : goal.returns-then-not-is_power_of_two-clause-answers
-returns-then-not-is_power_of_two-clause-answers g c = ?
 
 pub serve-requires-clause-power : goal.serve-requires-clause-power
 serve-requires-clause-power g c = ?

@@ -5,7 +5,11 @@ use Rattle.mz_base.specs.declared.profile.Profile.{Profile}
 use Rattle.mz_base.specs.Space.{Block, Run, block_at, page_of}
 use Rattle.mz_events.specs.Room.{best_fit}
 use Rattle.mz_events.specs.BestFit.{IsBestFit}
-use Rattle.mz_base.specs.Lists.{has_block}
+use Rattle.std.specs.Option.{option_to_list}
+use Rattle.mz_base.specs.Lists.{has_block, drop_block}
+use Rattle.mz_events.specs.Hands.{hand_through}
+use Rattle.mz_book.specs.declared.pair.Pair.{Pair}
+use Rattle.mz_book.specs.Pairs.{hand_among}
 use Rattle.mz_base.specs.Sizes.{route_of, good_size_of}
 use Rattle.mz_base.specs.Laws.{IsLeastSize}
 use Rattle.mz_events.specs.declared.event.Event.{Event}
@@ -19,12 +23,12 @@ use Rattle.mz_events.specs.History.{AreLawful, after_all}
 use Rattle.mz_events.specs.Holding.{changes_zones}
 use Rattle.mz_record.specs.Bytes.{Bytes, fresh, kept_in_place, kept_in_move, is_shown_as}
 use Rattle.mz_record.specs.Moments.{state_before, state_at}
-use Rattle.mz_record.specs.Served.{Request, Serves, IsUndisturbed, is_dry}
+use Rattle.mz_record.specs.Served.{Request, IsServed, Serves, IsUndisturbed, is_dry}
 use Rattle.mz_record.specs.Dropped.{IsDropped}
 use Rattle.mz_book.specs.declared.light.Light.{Light}
 use Rattle.mz_book.specs.Account.{Account, IsOrderly, entry_at, hand, owns_slot}
 use Rattle.mz_book.specs.Calls.{CanMakeSlot, CanEndSlot, CanNote, Notes}
-use Rattle.mz_book.specs.Growth.{Adds, GrowsHolding}
+use Rattle.mz_book.specs.Growth.{Adds, GrowsHolding, pairs_through}
 use Rattle.mz_book.specs.Lights.{slot_size, slots_of, slot_address, slot_number, page_of_block, light_at, same_light, has_light, add_light, drop_light}
 
 pub record ZoneLaws : Type 0 where
@@ -47,3 +51,6 @@ pub record ZoneLaws : Type 0 where
   pub unknown : (shown : List ℕ) → is_shown_as (fresh (length shown)) shown ≡ true
   pub good_size : (n : ℕ) → IsLeastSize (route_of n) n (good_size_of n)
   pub best : (cached : List Run) (w : ℕ) (r : Run) → (best_fit cached w ≡ Some r) ↔ IsBestFit cached w r
+  pub through : (c : ℕ) (pairs : List Pair) (es : List Entry) → hand_among c (pairs_through c pairs es) ≡ hand_through (hand_among c pairs) es
+  pub hand_served : (p : Profile) (h : List Entry) (q : Request) (es : List Entry) (got : Option Block) (hand : List Block) → IsServed p h q es got → hand_through hand es ≡ hand ++ option_to_list got
+  pub hand_dropped : (p : Profile) (h : List Entry) (b : Block) (es : List Entry) (hand : List Block) → IsDropped p h b es → hand_through hand es ≡ drop_block b hand

@@ -1,9 +1,9 @@
 //! The calls that end blocks.
-ghost use Rattle.std.specs.Prelude.{◌≡◌};
+ghost use Rattle.std.specs.Prelude.{◌↔◌, IsTrue};
 ghost use Rattle.mz_nano.specs.SlotViews.{IsPlaced};
 ghost use Rattle.mz_zone.specs.Blocks.{of_slot};
 ghost use Rattle.mz_zone.specs.Calling.{seen, CanCall, IsHandedIn, KeepsReferences};
-ghost use Rattle.mz_zone.specs.Freeing.{Frees, FreesOfSize};
+ghost use Rattle.mz_zone.specs.Freeing.{Frees, FreesOfSize, IsWrongSize};
 
 use crate::at::At;
 use crate::block::{Block, Inner};
@@ -92,8 +92,8 @@ impl Zone {
         ensures references { KeepsReferences at.old at.new }
         ensures frees { FreesOfSize (seen B.account at.old) self.now.zone b n result (seen B.account at.new) }
     {
-        let held = b.size();
-        if b.zone() == self.zone && !(n <= held && route(n) == route(held)) {
+        if b.zone() == self.zone && is_wrong_size(&b, n) {
+            let held = b.size();
             return Err(SizeFault::WrongSize { block: b, held });
         }
         match self.free(rt, at, b) {
@@ -101,4 +101,12 @@ impl Zone {
             Err(fault) => Err(SizeFault::NotLive(fault)),
         }
     }
+}
+
+// Whether the block can't have the size `n`.
+fn is_wrong_size(b: &Block, n: u64) -> bool
+    ensures { IsTrue result ↔ IsWrongSize b.now n }
+{
+    let held = b.size();
+    held < n || route(n) != route(held)
 }

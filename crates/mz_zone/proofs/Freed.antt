@@ -54,12 +54,12 @@ pub of_its_slot : (i : Inner) (x : SlotView) (b : BlockView) → i ≡ inner.Slo
 of_its_slot i x b e h = sym h ∙ ap view_of e
 
 -- the rack may be handed the lot
-pub can_hand : (v : AtView) (p q : Profile) (y z : ℕ) → CanCall v p z 40 → q ≡ p → y ≡ z → CanServe v.book q y 3
+pub can_hand : (v : AtView) (p q : Profile) (y z : ℕ) → CanCall v p z 3 → q ≡ p → y ≡ z → CanServe v.book q y 3
 can_hand v p q y z can of_profile of_zone = record {
   profile = can.serve.profile ∙ sym of_profile;
   zone_open = subst (λ i. IsTrue (is_open (state_of v.book) i)) (sym of_zone) can.serve.zone_open;
   nothing_held = can.serve.nothing_held;
-  room = let r : 40 ≤ v.book.spare = can.serve.room in omega arith;
+  room = let r : 3 ≤ v.book.spare = can.serve.room in omega arith;
 }
 
 pub freeable : (v : AtView) (l : LotView) → IsHandedIn v (of_lot l) → IsFreeable v.book l
@@ -124,7 +124,7 @@ in_bounds n h (k ∷ ks) (inl q) e =
 in_bounds n h (k ∷ ks) (inr i) e = in_bounds n h ks i (and_parts (nat_lt k.block n && nat_lt k.slot 1024) (hand_ok n ks) e).1
 
 -- a block of nano is handed in, where nano is there
-module _ (s : Account) (nano : Nano) (a : NanoSeat) (p : Profile) (z : ℕ) (x : SlotView) (can : CanCall (with_seat s nano a) p z 40) (placed : IsPlaced x) (handed : IsHandedIn (with_seat s nano a) (of_slot x)) where
+module _ (s : Account) (nano : Nano) (a : NanoSeat) (p : Profile) (z : ℕ) (x : SlotView) (can : CanCall (with_seat s nano a) p z 3) (placed : IsPlaced x) (handed : IsHandedIn (with_seat s nano a) (of_slot x)) where
   below : x.block < s.profile.nano
   below =
       let key : a.seat.me.0.geometry ≡ nano.table.shared.key = can.nano.seat.0.1 in
@@ -135,7 +135,7 @@ module _ (s : Account) (nano : Nano) (a : NanoSeat) (p : Profile) (z : ℕ) (x :
   can_note_handed = record {
     nothing_held = can.serve.nothing_held;
     zone_open = handed.zone_open;
-    room = let r : 40 ≤ s.spare = can.serve.room in omega arith;
+    room = let r : 3 ≤ s.spare = can.serve.room in omega arith;
     placed = placed;
     base = handed.slot.0 ∙ can.nano.first;
     below = below;
@@ -145,9 +145,9 @@ module _ (s : Account) (nano : Nano) (a : NanoSeat) (p : Profile) (z : ℕ) (x :
   handed_in_hand = subst (λ n. has_block (hand s) (block_at x.span.first n) ≡ true) placed.size handed.in_hand
 
 -- the same, where nano stands behind references
-module _ (s : Account) (refs : Option (Bor Nano × MutBor NanoSeat)) (both : Bor Nano × MutBor NanoSeat) (is : refs ≡ Some both) (p : Profile) (z : ℕ) (x : SlotView) (can : CanCall (record { book = s; nano = seated refs }) p z 40) (placed : IsPlaced x) (handed : IsHandedIn (record { book = s; nano = seated refs }) (of_slot x)) where
-  can_there : CanCall (with_seat s both.0.now both.1.now) p z 40
-  can_there = subst (λ r. CanCall (record { book = s; nano = seated r }) p z 40) is can
+module _ (s : Account) (refs : Option (Bor Nano × MutBor NanoSeat)) (both : Bor Nano × MutBor NanoSeat) (is : refs ≡ Some both) (p : Profile) (z : ℕ) (x : SlotView) (can : CanCall (record { book = s; nano = seated refs }) p z 3) (placed : IsPlaced x) (handed : IsHandedIn (record { book = s; nano = seated refs }) (of_slot x)) where
+  can_there : CanCall (with_seat s both.0.now both.1.now) p z 3
+  can_there = subst (λ r. CanCall (record { book = s; nano = seated r }) p z 3) is can
 
   handed_there : IsHandedIn (with_seat s both.0.now both.1.now) (of_slot x)
   handed_there = subst (λ r. IsHandedIn (record { book = s; nano = seated r }) (of_slot x)) is handed
@@ -178,7 +178,7 @@ page_above : (p : Profile) (b a : ℕ) → page_of a ≡ page_of_block p b → n
 page_above p b a e = omega (arith, e)
 
 -- a block of nano that another zone was handed is denied
-module _ (laws : ZoneLaws) (v : AtView) (p : Profile) (z : ℕ) (x : SlotView) (can : CanCall v p z 40) (below : z < p.zones) (other : z ≢ 0) (placed : IsPlaced x) (handed : IsHandedIn v (of_slot x)) where
+module _ (laws : ZoneLaws) (v : AtView) (p : Profile) (z : ℕ) (x : SlotView) (can : CanCall v p z 3) (below : z < p.zones) (other : z ≢ 0) (placed : IsPlaced x) (handed : IsHandedIn v (of_slot x)) where
   abbrev denial : Event
   denial = No place.Nano z x.span.first (16 * x.class)
 
@@ -187,7 +187,7 @@ module _ (laws : ZoneLaws) (v : AtView) (p : Profile) (z : ℕ) (x : SlotView) (
 
   pub can_deny : CanNote v.book denial
   can_deny = record {
-    room = let r : 40 ≤ v.book.spare = can.serve.room in omega arith;
+    room = let r : 3 ≤ v.book.spare = can.serve.room in omega arith;
     between = λ h. absurd (false≢true h);
     in_hand = subst (λ n. has_block (hand v.book) (block_at x.span.first n) ≡ true) placed.size handed.in_hand;
     by_held = λ h. absurd (false≢true (sym h));
@@ -217,3 +217,13 @@ module _ (laws : ZoneLaws) (v : AtView) (p : Profile) (z : ℕ) (x : SlotView) (
         hand = refl;
         counts = counts_stay v.book t v.nano g.same.settled g.same.founds g.same.found;
       }
+
+-- room for many is room for fewer
+pub can_fewer : (v : AtView) (p : Profile) (z m n : ℕ) → n ≤ m → CanCall v p z m → CanCall v p z n
+can_fewer v p z m n l can = record {
+  serve = record {
+    profile = can.serve.profile; zone_open = can.serve.zone_open; nothing_held = can.serve.nothing_held;
+    room = let r : m ≤ v.book.spare = can.serve.room in omega arith;
+  };
+  nano = can.nano;
+}

@@ -8,3 +8,4 @@ pub mod Trying
 pub mod Aligned
 pub mod Enough
 pub mod Clearing
+pub mod Moved

@@ -31,6 +31,21 @@ impl Zone {
         ensures references { KeepsReferences at.old at.new }
         ensures frees { Frees (seen B.account at.old) self.now.zone b result (seen B.account at.new) }
     {
+        self.take_back(rt, at, b)
+    }
+
+    // Ends a block of the zone, where there is room for its end and the duties that this calls for.
+    pub(crate) fn take_back<B: Book<Keeper>, R: Wait>(
+        &self,
+        rt: &R,
+        at: &mut At<B>,
+        b: Block,
+    ) -> Result<(), NotLiveBlock>
+        requires can { CanCall (seen B.account at.old) self.now.profile self.now.zone 3 }
+        requires block { IsHandedIn (seen B.account at.old) b }
+        ensures references { KeepsReferences at.old at.new }
+        ensures frees { Frees (seen B.account at.old) self.now.zone b result (seen B.account at.new) }
+    {
         of_zones();
         match b.inner {
             Inner::Lot(lot) => match self.rack.free(rt, at.book, lot) {
@@ -51,7 +66,7 @@ impl Zone {
         at: &mut At<B>,
         slot: SlotSpan,
     ) -> Result<(), NotLiveBlock>
-        requires can { CanCall (seen B.account at.old) self.now.profile self.now.zone 40 }
+        requires can { CanCall (seen B.account at.old) self.now.profile self.now.zone 3 }
         requires block { IsHandedIn (seen B.account at.old) (of_slot slot) }
         requires placed { IsPlaced slot }
         ensures references { KeepsReferences at.old at.new }

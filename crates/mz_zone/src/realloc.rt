@@ -111,7 +111,7 @@ impl Zone {
             }
         };
         copy(&b, &mut new, n);
-        match self.free(rt, at, b) {
+        match self.take_back(rt, at, b) {
             Ok(()) => Ok(new),
             Err(_fault) => unreachable!(),
         }

@@ -53,6 +53,7 @@ pub cleared_answer :
 cleared_answer laws v w z n b d fits is a =
     let bytes : List ℕ = replicate n 0 ++ drop n b.span.bytes in
     let same : length bytes ≡ length b.span.bytes = front_length n b.span.bytes fits in
-    let place : d ≡ at_its_place b bytes = is ∙ whole_front b bytes same in
-    (subst (λ x. Answers v z n 16 (Ok x) w) (sym place) (other_bytes v w z n 16 b bytes same a),
-    subst (λ x. IsCleared n x) (sym place) (subst (λ k. is_shown_as (cleared n (fresh k)) bytes ≡ true) (sym same) (shown_cleared laws n b.span.bytes fits)))
+    let place : d ≡ at_its_place b bytes = is ∙ whole_front b bytes same in (
+      subst (λ x. Answers v z n 16 (Ok x) w) (sym place) (other_bytes v w z n 16 b bytes same a),
+      subst (λ x. IsCleared n x) (sym place) (subst (λ k. is_shown_as (cleared n (fresh k)) bytes ≡ true) (sym same) (shown_cleared laws n b.span.bytes fits)),
+    )

@@ -222,7 +222,9 @@ module _ (laws : ZoneLaws) (v : AtView) (p : Profile) (z : ℕ) (x : SlotView) (
 pub can_fewer : (v : AtView) (p : Profile) (z m n : ℕ) → n ≤ m → CanCall v p z m → CanCall v p z n
 can_fewer v p z m n l can = record {
   serve = record {
-    profile = can.serve.profile; zone_open = can.serve.zone_open; nothing_held = can.serve.nothing_held;
+    profile = can.serve.profile;
+    zone_open = can.serve.zone_open;
+    nothing_held = can.serve.nothing_held;
     room = let r : m ≤ v.book.spare = can.serve.room in omega arith;
   };
   nano = can.nano;

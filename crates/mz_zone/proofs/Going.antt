@@ -27,8 +27,15 @@ pub adds_apart : (s t : Account) (mine : List Entry) (k : ℕ) → Adds s mine k
 adds_apart s t mine k a = record {
   more = a.more;
   same = record {
-    name = a.same.name; profile = a.same.profile; caller = a.same.caller; site = a.same.site; between = a.same.between; lights = a.same.lights;
-    settled = refl; founds = refl; found = refl;
+    name = a.same.name;
+    profile = a.same.profile;
+    caller = a.same.caller;
+    site = a.same.site;
+    between = a.same.between;
+    lights = a.same.lights;
+    settled = refl;
+    founds = refl;
+    found = refl;
   };
   seen = a.seen;
   own_is = a.own_is;

@@ -38,15 +38,27 @@ noted laws s t x e n classes calm can dark may notes =
     let lit : Account = record s { settled = classes; lights = add_light (light_at x.block x.slot) s.lights } in
     let g : Adds lit (entry_at n s.caller e ∷ []) 0 t = (laws.noted lit t e n may calm notes).grows.adds in
     let back : drop_light (light_at x.block x.slot) t.lights ≡ s.lights =
-        ap (λ a. drop_light (light_at x.block x.slot) a.lights) notes.after ∙ laws.light_back s.lights (light_at x.block x.slot) dark in
+    ap (λ a. drop_light (light_at x.block x.slot) a.lights) notes.after ∙ laws.light_back s.lights (light_at x.block x.slot) dark in
     record {
       adds = record {
         more = g.more;
         same = record {
-          name = g.same.name; profile = g.same.profile; caller = g.same.caller; site = g.same.site; between = g.same.between;
-          lights = back; settled = refl; founds = refl; found = refl;
+          name = g.same.name;
+          profile = g.same.profile;
+          caller = g.same.caller;
+          site = g.same.site;
+          between = g.same.between;
+          lights = back;
+          settled = refl;
+          founds = refl;
+          found = refl;
         };
-        seen = g.seen; own_is = g.own_is; alone = g.alone; noted = g.noted; pairs = g.pairs; spare = g.spare;
+        seen = g.seen;
+        own_is = g.own_is;
+        alone = g.alone;
+        noted = g.noted;
+        pairs = g.pairs;
+        spare = g.spare;
         holds = lit≤ tt;
         zones = g.zones;
       };
@@ -190,8 +202,17 @@ module _ (laws : ZoneLaws) (s : Account) (x : SlotView) (orderly : IsOrderly s) 
 
     orderly_lit : IsOrderly (lit_from s)
     orderly_lit = record {
-      limits = orderly.limits; caller = orderly.caller; lawful = orderly.lawful; recorded = orderly.recorded; ascending = orderly.ascending;
-      below = orderly.below; few = orderly.few; counted = orderly.counted; owned = orderly.owned; settled = orderly.settled; classes = orderly.classes;
+      limits = orderly.limits;
+      caller = orderly.caller;
+      lawful = orderly.lawful;
+      recorded = orderly.recorded;
+      ascending = orderly.ascending;
+      below = orderly.below;
+      few = orderly.few;
+      counted = orderly.counted;
+      owned = orderly.owned;
+      settled = orderly.settled;
+      classes = orderly.classes;
     }
 
     module _ (n : ℕ) (t : Account) (notes : Notes (lit_from s) (ending x) n t) where
@@ -228,70 +249,70 @@ module _ (laws : ZoneLaws) (s : Account) (x : SlotView) (orderly : IsOrderly s) 
       (s1 s2 : Account) (b c j a : ℕ) (l : Light) (eb : b ≡ x.block) (ec : c ≡ x.class) (ej : j ≡ x.slot) (ea : a ≡ x.span.first)
       (set : IsSettled s b c s1) (lit : IsLit s1 b j 0 l s2)
     where
-    first : s1 ≡ classed laws s x orderly can
-    first = set.after ∙ (ap (λ i. classed_at s i c) eb ∙ ap (λ i. classed_at s x.block i) ec)
+      first : s1 ≡ classed laws s x orderly can
+      first = set.after ∙ (ap (λ i. classed_at s i c) eb ∙ ap (λ i. classed_at s x.block i) ec)
 
-    is_light : l ≡ light_at x.block x.slot
-    is_light = lit.light ∙ (ap (λ i. light_at i j) eb ∙ ap (λ i. light_at x.block i) ej)
+      is_light : l ≡ light_at x.block x.slot
+      is_light = lit.light ∙ (ap (λ i. light_at i j) eb ∙ ap (λ i. light_at x.block i) ej)
 
-    second : s2 ≡ lit_from laws s x orderly can (classed laws s x orderly can)
-    second =
-        lit.after
-        ∙ (ap (λ t. lit_at t b j) first
-        ∙ (ap (λ i. lit_at (classed laws s x orderly can) i j) eb ∙ ap (λ i. lit_at (classed laws s x orderly can) x.block i) ej))
+      second : s2 ≡ lit_from laws s x orderly can (classed laws s x orderly can)
+      second =
+          lit.after
+          ∙ (ap (λ t. lit_at t b j) first
+          ∙ (ap (λ i. lit_at (classed laws s x orderly can) i j) eb ∙ ap (λ i. lit_at (classed laws s x orderly can) x.block i) ej))
 
-    idle : owns_slot (classed laws s x orderly can) x.block x.slot ≡ false
-    idle =
-        subst (λ t. owns_slot t x.block x.slot ≡ false) first
-        (subst (λ i. owns_slot s1 i x.slot ≡ false) eb (subst (λ i. owns_slot s1 b i ≡ false) ej (lit.idle refl)))
+      idle : owns_slot (classed laws s x orderly can) x.block x.slot ≡ false
+      idle =
+          subst (λ t. owns_slot t x.block x.slot ≡ false) first
+          (subst (λ i. owns_slot s1 i x.slot ≡ false) eb (subst (λ i. owns_slot s1 b i ≡ false) ej (lit.idle refl)))
 
-    known : CanBeOfClass s x.block x.class
-    known = subst (λ i. CanBeOfClass s i x.class) eb (subst (λ i. CanBeOfClass s b i) ec set.no_other)
+      known : CanBeOfClass s x.block x.class
+      known = subst (λ i. CanBeOfClass s i x.class) eb (subst (λ i. CanBeOfClass s b i) ec set.no_other)
 
-    event : New Nano a (16 * c) 16 ≡ making x
-    event = ap (λ i. New Nano i (16 * c) 16) ea ∙ ap (λ i. New Nano x.span.first (16 * i) 16) ec
+      event : New Nano a (16 * c) 16 ≡ making x
+      event = ap (λ i. New Nano i (16 * c) 16) ea ∙ ap (λ i. New Nano x.span.first (16 * i) 16) ec
 
-    pub may_note : CanNote s2 (New Nano a (16 * c) 16)
-    may_note = rw (second, event) (can_note laws s x orderly can idle)
+      pub may_note : CanNote s2 (New Nano a (16 * c) 16)
+      may_note = rw (second, event) (can_note laws s x orderly can idle)
 
-    module _ (s3 : Account) (n : ℕ) (notes : Notes s2 (New Nano a (16 * c) 16) n s3) where
-      noted_so : Notes (lit_from laws s x orderly can (classed laws s x orderly can)) (making x) n s3
-      noted_so = rw (second, event) at notes
+      module _ (s3 : Account) (n : ℕ) (notes : Notes s2 (New Nano a (16 * c) 16) n s3) where
+        noted_so : Notes (lit_from laws s x orderly can (classed laws s x orderly can)) (making x) n s3
+        noted_so = rw (second, event) at notes
 
-      pub may_unlight : CanReleaseLight s3 l true
-      may_unlight = rw is_light (can_unlight laws s x orderly can idle n s3 noted_so)
+        pub may_unlight : CanReleaseLight s3 l true
+        may_unlight = rw is_light (can_unlight laws s x orderly can idle n s3 noted_so)
 
-      pub was_made : (s4 : Account) → ReleasesLight s3 l s4 → IsMade s x s4
-      was_made s4 back = rw (back.after, is_light) (made laws s x orderly can idle n s3 noted_so known)
+        pub was_made : (s4 : Account) → ReleasesLight s3 l s4 → IsMade s x s4
+        was_made s4 back = rw (back.after, is_light) (made laws s x orderly can idle n s3 noted_so known)
 
   -- where the slot's block ends
   module _
       (mine : IsTrue (has_block (hand s) (block_at x.span.first (16 * x.class)))) (s1 : Account) (b c j a : ℕ) (l : Light) (eb : b ≡ x.block)
       (ec : c ≡ x.class) (ej : j ≡ x.slot) (ea : a ≡ x.span.first) (lit : IsLit s b j 1 l s1)
     where
-    end_light : l ≡ light_at x.block x.slot
-    end_light = lit.light ∙ (ap (λ i. light_at i j) eb ∙ ap (λ i. light_at x.block i) ej)
+      end_light : l ≡ light_at x.block x.slot
+      end_light = lit.light ∙ (ap (λ i. light_at i j) eb ∙ ap (λ i. light_at x.block i) ej)
 
-    end_first : s1 ≡ lit_from laws s x orderly can s
-    end_first =
-        lit.after
-        ∙ (ap (λ i. lit_at s i j) eb ∙ ap (λ i. lit_at s x.block i) ej)
+      end_first : s1 ≡ lit_from laws s x orderly can s
+      end_first =
+          lit.after
+          ∙ (ap (λ i. lit_at s i j) eb ∙ ap (λ i. lit_at s x.block i) ej)
 
-    end_event : End Nano a (16 * c) ≡ ending x
-    end_event = ap (λ i. End Nano i (16 * c)) ea ∙ ap (λ i. End Nano x.span.first (16 * i)) ec
+      end_event : End Nano a (16 * c) ≡ ending x
+      end_event = ap (λ i. End Nano i (16 * c)) ea ∙ ap (λ i. End Nano x.span.first (16 * i)) ec
 
-    pub may_note_end : CanNote s1 (End Nano a (16 * c))
-    may_note_end = rw (end_first, end_event) (can_note_end laws s x orderly can mine)
+      pub may_note_end : CanNote s1 (End Nano a (16 * c))
+      may_note_end = rw (end_first, end_event) (can_note_end laws s x orderly can mine)
 
-    module _ (s2 : Account) (n : ℕ) (notes : Notes s1 (End Nano a (16 * c)) n s2) where
-      end_noted : Notes (lit_from laws s x orderly can s) (ending x) n s2
-      end_noted = rw (end_first, end_event) at notes
+      module _ (s2 : Account) (n : ℕ) (notes : Notes s1 (End Nano a (16 * c)) n s2) where
+        end_noted : Notes (lit_from laws s x orderly can s) (ending x) n s2
+        end_noted = rw (end_first, end_event) at notes
 
-      pub may_unlight_end : CanReleaseLight s2 l false
-      may_unlight_end = rw end_light (can_unlight_end laws s x orderly can mine n s2 end_noted)
+        pub may_unlight_end : CanReleaseLight s2 l false
+        may_unlight_end = rw end_light (can_unlight_end laws s x orderly can mine n s2 end_noted)
 
-      pub has_ended : (s3 : Account) → ReleasesLight s2 l s3 → IsEnded s x s3
-      has_ended s3 back = rw (back.after, end_light) (did_end laws s x orderly can mine n s2 end_noted)
+        pub has_ended : (s3 : Account) → ReleasesLight s2 l s3 → IsEnded s x s3
+        has_ended s3 back = rw (back.after, end_light) (did_end laws s x orderly can mine n s2 end_noted)
 
   pub may_relight : IsTrue (has_block (hand s) (block_at x.span.first (16 * x.class))) → CanHoldLight s x.block x.slot 1
   may_relight mine = can_relight laws s x orderly can mine

@@ -63,7 +63,7 @@ module _ (laws : ZoneLaws) (v w : AtView) (p : Profile) (z n al : ℕ) (can : Ca
       let m = t.makes in
       let size : 16 * x.class ≡ good_size_of n = ap (λ c. 16 * c) t.slot.0 ∙ sym (nano_size n f.small) in
       let made : events t.mine ≡ New Nano x.span.first (good_size_of n) 16 ∷ [] =
-          ap events m.1 ∙ ap (λ k. New Nano x.span.first k 16 ∷ []) size in
+      ap events m.1 ∙ ap (λ k. New Nano x.span.first k 16 ∷ []) size in
       record {
         mine = t.mine;
         goes = t.goes;
@@ -134,7 +134,9 @@ can_serve v u p q y z can goes of_profile of_zone = record {
 pub can_try : (v : AtView) (p : Profile) (z : ℕ) → CanCall v p z 40 → CanCall v v.book.profile z 1
 can_try v p z can = record {
   serve = record {
-    profile = refl; zone_open = can.serve.zone_open; nothing_held = can.serve.nothing_held;
+    profile = refl;
+    zone_open = can.serve.zone_open;
+    nothing_held = can.serve.nothing_held;
     room = let r : 40 ≤ v.book.spare = can.serve.room in omega arith;
   };
   nano = can.nano;

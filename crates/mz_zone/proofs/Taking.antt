@@ -30,7 +30,7 @@ pub same_counts :
     {a a' b b' c c' : ℕ} {d d' : Option Held} {e e' : ℕ} {f f' : Option Asked} {h h' : List ℕ}
     → a ≡ a' → b ≡ b' → c ≡ c' → d ≡ d' → e ≡ e' → f ≡ f' → h ≡ h'
     → ◌≡◌ {A = Counts} (record { tries = a; misses = b; missed = c; popped = d; founds = e; found = f; settled = h })
-      (record { tries = a'; misses = b'; missed = c'; popped = d'; founds = e'; found = f'; settled = h' })
+    (record { tries = a'; misses = b'; missed = c'; popped = d'; founds = e'; found = f'; settled = h' })
 same_counts p q r s t u v = cc
 
 -- a slot that isn't in the hand leaves it as it is

@@ -9,6 +9,7 @@ ghost use Rattle.mz_zone.specs.Resizing.{ResizesLot, StaysIf, MovesNow, MovesTo,
 use crate::at::At;
 use crate::block::{Block, Inner};
 use crate::fault::ReallocFault;
+use crate::laws::{of_book, of_zones};
 use crate::zone::Zone;
 use mz_base::units;
 use mz_book::Book;
@@ -66,13 +67,7 @@ impl Zone {
     }
 
     // Gives the block room for `n` bytes where it is, if it has it there.
-    fn stays<B: Book<Keeper>, R: Wait>(
-        &self,
-        rt: &R,
-        at: &mut At<B>,
-        b: &mut Block,
-        n: u64,
-    ) -> bool
+    fn stays<B: Book<Keeper>, R: Wait>(&self, rt: &R, at: &mut At<B>, b: &mut Block, n: u64) -> bool
         requires can { CanCall (seen B.account at.old) self.now.profile self.now.zone 40 }
         requires block { IsHandedIn (seen B.account at.old) b.old }
         requires of_zone { b.old.zone ≡ self.now.zone }
@@ -101,18 +96,24 @@ impl Zone {
         ensures references { KeepsReferences at.old at.new }
         ensures moves { MovesTo (seen B.account at.old) self.now.zone b n result (seen B.account at.new) }
     {
+        of_zones();
         let mut new = match self.malloc(rt, at, n) {
             Ok(new) => new,
             Err(null) => {
+                of_book(at.book);
                 return Err(ReallocFault::Null {
                     block: Some(b),
                     null,
                 });
             }
         };
+        of_book(at.book);
         copy(&b, &mut new, n);
         match self.take_back(rt, at, b) {
-            Ok(()) => Ok(new),
+            Ok(()) => {
+                of_book(at.book);
+                Ok(new)
+            }
             Err(_fault) => unreachable!(),
         }
     }

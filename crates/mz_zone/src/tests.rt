@@ -1,7 +1,6 @@
 use crate::{At, Block, Zone};
 use mz_base::Profile;
-use mz_book::{Book, PlainBook};
-use mz_events::{Entry, Event, Place};
+use mz_book::PlainBook;
 use mz_ground::Space;
 use mz_nano::{Nano, NanoSeat};
 use mz_rack::Keeper;
@@ -20,9 +19,7 @@ fn profile() -> Profile {
     }
 }
 
-fn setting(
-    alloc: Global,
-) -> Result<(PlainBook<Keeper>, Zone, Nano, Vec<NanoSeat>), AllocError> {
+fn setting(alloc: Global) -> Result<(PlainBook<Keeper>, Zone, Nano, Vec<NanoSeat>), AllocError> {
     let p = profile();
     let span = Space::new(alloc, p.pages)?;
     let (low, high) = span.split((p.pages - p.nano) * 16_384);
@@ -73,6 +70,8 @@ fn nano_serves_and_frees(rt: HostRuntime) -> Result<(), Fail> {
         return Err(Fail::new("batch_free"));
     };
     assert_eq!(rt; (seats[0].tries(), seats[0].misses()), (5, 0));
-    assert_eq!(rt; book.history().len(), 14);
+    // Two blocks of nano; `full`, `full`, `take`, `new` and `end` for the one that moves; two more ends, and a `new` at a page; and
+    // three blocks of a batch, made and ended.
+    assert_eq!(rt; book.history().len(), 16);
     Ok(())
 }

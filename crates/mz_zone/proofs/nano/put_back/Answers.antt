@@ -28,8 +28,12 @@ returns-in-Ok g c =
     let n = c.push.ensures.counts in
     record {
       same = record {
-        sits = c.push.ensures.one; number = n.4 ∙ i.same.number; tries = n.0 ∙ i.same.tries; misses = n.1 ∙ i.same.misses;
-        missed = n.2 ∙ i.same.missed; popped = n.3 ∙ i.same.popped;
+        sits = c.push.ensures.one;
+        number = n.4 ∙ i.same.number;
+        tries = n.0 ∙ i.same.tries;
+        misses = n.1 ∙ i.same.misses;
+        missed = n.2 ∙ i.same.missed;
+        popped = n.3 ∙ i.same.popped;
       };
       hand = put_out _ _ _ _ _ i.slot i.hand c.in-Ok.ensures.ok.hand;
     }
@@ -41,8 +45,12 @@ loop-preserved g c =
     record {
       slot = c.in-Err.ensures.err.0 ∙ i.slot;
       same = record {
-        sits = c.push.ensures.one; number = n.4 ∙ i.same.number; tries = n.0 ∙ i.same.tries; misses = n.1 ∙ i.same.misses;
-        missed = n.2 ∙ i.same.missed; popped = n.3 ∙ i.same.popped;
+        sits = c.push.ensures.one;
+        number = n.4 ∙ i.same.number;
+        tries = n.0 ∙ i.same.tries;
+        misses = n.1 ∙ i.same.misses;
+        missed = n.2 ∙ i.same.missed;
+        popped = n.3 ∙ i.same.popped;
       };
       hand = c.in-Err.ensures.err.1.hand ∙ i.hand;
     }

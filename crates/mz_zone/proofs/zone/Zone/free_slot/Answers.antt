@@ -25,7 +25,7 @@ returns-then-self-ne0-clause-frees g c =
     let s : Account = g.B.Book.account c.args.at.now.book.now in
     let t : Account = g.B.Book.account c.note-ticket.new.self in
     let n : Notes s (No place.Nano c.args.self.now.zone c.args.slot.span.first (16 * c.args.slot.class)) c.note-ticket.result t =
-        rw (c.first.ensures ∙ sym c.requires.placed.first, c.class.ensures) at c.note-ticket.ensures in
+    rw (c.first.ensures ∙ sym c.requires.placed.first, c.class.ensures) at c.note-ticket.ensures in
     rw c.of_slot.ensures
     (slot_denied c.of_zones.ensures (seen g.B.Book.account c.args.at.now) c.args.self.now.profile c.args.self.now.zone c.args.slot c.requires.can (zone_in c.args.self.now)
     c.if-self-ne0.true c.requires.placed c.requires.block t c.note-ticket.result n)

@@ -1,19 +1,18 @@
+use Rattle.mz_zone.proofs.Enough.{served_holds}
+use Rattle.mz_zone.proofs.Moved.{moves_later}
 use Rattle.mz_zone.proofs.zone.Zone.move_on.Goals as goal
 
-pub malloc-requires : goal.malloc-requires
-malloc-requires g c = ?
-
 pub copy-requires : goal.copy-requires
-copy-requires g c = ?
+copy-requires g c = served_holds c.of_zones.ensures _ _ _ _ _ c.in-Ok.ensures.answers.serves.served
 
-pub free-requires : goal.free-requires
-free-requires g c = ?
+pub take_back-requires : goal.take_back-requires
+take_back-requires g c = ?
 
 pub returns-in-Err-clause-moves : goal.returns-in-Err-clause-moves
 returns-in-Err-clause-moves g c = ?
 
-pub returns-in-Ok-clause-moves : goal.returns-in-Ok-clause-moves
-returns-in-Ok-clause-moves g c = ?
+pub returns-clause-moves : goal.returns-clause-moves
+returns-clause-moves g c = ?
 
 pub unreachable-requires : goal.unreachable-requires
-unreachable-requires g c = ?
+unreachable-requires g c = c.in-Err-take_back.ensures.frees.freed.0 c.requires.of_zone

@@ -20,7 +20,7 @@ alloc-requires g c =
     let u : AtView = seen g.B.Book.account c.try_nano.new.at in
     let may = can_try v c.args.self.now.profile c.args.self.now.zone c.requires.can in
     let pass : IsPassed c.of_zones.ensures v u v.book.profile c.args.self.now.zone c.args.n c.args.al may =
-        passed c.of_zones.ensures v u v.book.profile c.args.self.now.zone c.args.n c.args.al may c.in_default.ensures.takes in
+    passed c.of_zones.ensures v u v.book.profile c.args.self.now.zone c.args.n c.args.al may c.in_default.ensures.takes in
     record {
       can = can_serve v u c.args.self.now.profile c.args.self.now.rack.profile c.args.self.now.rack.zone c.args.self.now.zone c.requires.can pass.goes
           c.args.self.now.of_profile c.args.self.now.of_zone;
@@ -34,8 +34,8 @@ returns-in-Some-clause-answers g c =
     let v : AtView = seen g.B.Book.account c.args.at.now in
     let w : AtView = seen g.B.Book.account c.try_nano.new.at in
     let h : Answers v c.args.self.now.zone c.args.n c.args.al _ w =
-        by_slot c.of_zones.ensures v w v.book.profile c.args.self.now.zone c.args.n c.args.al
-        (can_try v c.args.self.now.profile c.args.self.now.zone c.requires.can) c.in-Some.slot c.in-Some.ensures.takes in
+    by_slot c.of_zones.ensures v w v.book.profile c.args.self.now.zone c.args.n c.args.al
+    (can_try v c.args.self.now.profile c.args.self.now.zone c.requires.can) c.in-Some.slot c.in-Some.ensures.takes in
     rw c.of_slot.ensures h
 
 pub returns-in-Ok-clause-answers : goal.returns-in-Ok-clause-answers
@@ -44,9 +44,9 @@ returns-in-Ok-clause-answers g c =
     let u : AtView = seen g.B.Book.account c.try_nano.new.at in
     let may = can_try v c.args.self.now.profile c.args.self.now.zone c.requires.can in
     let pass : IsPassed c.of_zones.ensures v u v.book.profile c.args.self.now.zone c.args.n c.args.al may =
-        passed c.of_zones.ensures v u v.book.profile c.args.self.now.zone c.args.n c.args.al may c.in_default.ensures.takes in
+    passed c.of_zones.ensures v u v.book.profile c.args.self.now.zone c.args.n c.args.al may c.in_default.ensures.takes in
     let r : Racked u.book c.args.self.now.zone c.args.n c.args.al (Ok c.in-Ok.lot) (g.B.Book.account c.alloc.new.book) =
-        subst (λ z. Racked u.book z c.args.n c.args.al (Ok c.in-Ok.lot) (g.B.Book.account c.alloc.new.book)) c.args.self.now.of_zone c.in-Ok.ensures in
+    subst (λ z. Racked u.book z c.args.n c.args.al (Ok c.in-Ok.lot) (g.B.Book.account c.alloc.new.book)) c.args.self.now.of_zone c.in-Ok.ensures in
     rw c.of_lot.ensures
     (by_lot c.of_zones.ensures v u (g.B.Book.account c.alloc.new.book) c.args.self.now.zone c.args.n c.args.al pass.goes pass.hand pass.tries (Ok c.in-Ok.lot) r)
 
@@ -56,7 +56,7 @@ returns-in-Err-clause-answers g c =
     let u : AtView = seen g.B.Book.account c.try_nano.new.at in
     let may = can_try v c.args.self.now.profile c.args.self.now.zone c.requires.can in
     let pass : IsPassed c.of_zones.ensures v u v.book.profile c.args.self.now.zone c.args.n c.args.al may =
-        passed c.of_zones.ensures v u v.book.profile c.args.self.now.zone c.args.n c.args.al may c.in_default.ensures.takes in
+    passed c.of_zones.ensures v u v.book.profile c.args.self.now.zone c.args.n c.args.al may c.in_default.ensures.takes in
     let r : Racked u.book c.args.self.now.zone c.args.n c.args.al (Err c.in-Err.null) (g.B.Book.account c.alloc.new.book) =
-        subst (λ z. Racked u.book z c.args.n c.args.al (Err c.in-Err.null) (g.B.Book.account c.alloc.new.book)) c.args.self.now.of_zone c.in-Err.ensures in
+    subst (λ z. Racked u.book z c.args.n c.args.al (Err c.in-Err.null) (g.B.Book.account c.alloc.new.book)) c.args.self.now.of_zone c.in-Err.ensures in
     by_lot c.of_zones.ensures v u (g.B.Book.account c.alloc.new.book) c.args.self.now.zone c.args.n c.args.al pass.goes pass.hand pass.tries (Err c.in-Err.null) r

@@ -23,7 +23,7 @@ returns-in-Ok-clause-frees g c =
     let v : AtView = seen g.B.Book.account c.args.at.now in
     let b : c.args.b ≡ of_lot c.in-Lot.lot = of_its_lot c.b.inside.inner c.in-Lot.lot c.args.b c.in-Lot.is c.b.view_is in
     let a : Racked v.book c.args.self.now.zone c.in-Lot.lot (Ok tt) (g.B.Book.account c.free.new.book) =
-        rw (c.in-Lot.lot-is, c.args.self.now.of_zone) at c.in-Ok.ensures in
+    rw (c.in-Lot.lot-is, c.args.self.now.of_zone) at c.in-Ok.ensures in
     rw b (by_rack c.of_zones.ensures v (g.B.Book.account c.free.new.book) c.args.self.now.zone c.in-Lot.lot c.requires.can.serve.nothing_held c.requires.can.nano (Ok tt) a)
 
 pub returns-in-Err-clause-frees : goal.returns-in-Err-clause-frees
@@ -31,7 +31,7 @@ returns-in-Err-clause-frees g c =
     let v : AtView = seen g.B.Book.account c.args.at.now in
     let b : c.args.b ≡ of_lot c.in-Lot.lot = of_its_lot c.b.inside.inner c.in-Lot.lot c.args.b c.in-Lot.is c.b.view_is in
     let a : Racked v.book c.args.self.now.zone c.in-Lot.lot (Err c.in-Err.fault) (g.B.Book.account c.free.new.book) =
-        rw (c.in-Lot.lot-is, c.args.self.now.of_zone) at c.in-Err.ensures in
+    rw (c.in-Lot.lot-is, c.args.self.now.of_zone) at c.in-Err.ensures in
     rw (b, c.of_lot.ensures)
     (by_rack c.of_zones.ensures v (g.B.Book.account c.free.new.book) c.args.self.now.zone c.in-Lot.lot c.requires.can.serve.nothing_held c.requires.can.nano (Err c.in-Err.fault) a)
 

@@ -9,7 +9,14 @@ use Rattle.mz_events.specs.declared.entry.Entry.{Entry}
 use Rattle.mz_events.specs.State.{opening}
 use Rattle.mz_events.specs.History.{AreLawful}
 use Rattle.mz_record.specs.Moments.{state_at}
-use Rattle.mz_record.specs.Resized.{Moves, to_nothing, between_ranges, out_of_nano, large, hemmed_in, WasHemmedIn, IsHemmedIn}
+use Rattle.mz_record.specs.Resized.{Moves, to_nothing, between_ranges, out_of_nano, large, hemmed_in, WasHemmedIn, IsHemmedIn, not_moved}
+use Rattle.mz_book.specs.Account.{IsOrderly}
+use Rattle.mz_rack.specs.declared.lot.Null.{Null}
+use Rattle.mz_zone.specs.Blocks.{BlockView, block_of}
+use Rattle.mz_zone.specs.Calling.{AtView, Goes}
+use Rattle.mz_zone.specs.Answering.{Answers}
+use Rattle.mz_zone.specs.Moving.{IsBefore, MovesOn}
+use Rattle.mz_zone.specs.Resizing.{MovesNow}
 use Rattle.mz_zone.specs.ZoneLaws.{ZoneLaws}
 
 -- what made a block move after t entries is so in a longer history too
@@ -27,3 +34,31 @@ moves_later laws p h later t b n lawful within (hemmed_in e f w) = hemmed_in e f
   within = let i : w.t ≤ length h = w.within in omega (arith, length-append h later);
   hemmed = subst (λ s. IsHemmedIn s b (good_size_of n)) (sym (laws.state_later p h later w.t lawful w.within)) w.hemmed;
 })
+
+-- an entry of the call comes after all that was seen before it
+none_before : (laws : ZoneLaws) (v w : AtView) (mine : List Entry) → IsOrderly w.book → Goes v mine w → IsBefore v mine (length v.book.seen)
+none_before laws v w mine orderly goes = record { all_seen = omega arith; none_noted = λ e i. ? }
+
+-- no block was served, and the old one stays
+pub stays_so :
+    (laws : ZoneLaws) (v w : AtView) (z n : ℕ) (b : BlockView) (e : Null) → IsOrderly w.book → Answers v z n 16 (Err e) w → MovesNow v b n
+    → MovesOn v z b n (Err e) w
+stays_so laws v w z n b e orderly a moves =
+    let more : List Entry = a.goes.adds.more in
+    let seen : w.book.seen ≡ v.book.seen ++ more = a.goes.adds.seen in
+    let lawful : AreLawful v.book.profile opening (v.book.seen ++ more) =
+        subst (λ h. AreLawful v.book.profile opening h) seen (subst (λ p. AreLawful p opening w.book.seen) a.goes.adds.same.profile orderly.lawful) in
+    let later : Moves v.book.profile (v.book.seen ++ more) (length v.book.seen) (length v.book.seen) (block_of b) n =
+        moves_later laws v.book.profile v.book.seen more (length v.book.seen) (block_of b) n lawful (omega arith) moves in
+    record {
+      mine = a.mine;
+      goes = a.goes;
+      t = length v.book.seen;
+      before = none_before laws v w a.mine orderly a.goes;
+      moved = not_moved (subst (λ h. Moves v.book.profile h (length v.book.seen) (length v.book.seen) (block_of b) n) (sym seen) later) a.serves refl;
+      answer = a.answer;
+      slot = a.slot;
+      bytes = tt;
+      hand = a.hand;
+      tries = a.tries;
+    }

@@ -1,5 +1,7 @@
+use Rattle.std.proofs.Common.{refl}
 use Rattle.mz_zone.proofs.Enough.{served_holds}
-use Rattle.mz_zone.proofs.Moved.{moves_later}
+use Rattle.mz_zone.specs.Calling.{seen}
+use Rattle.mz_zone.proofs.Moved.{stays_so}
 use Rattle.mz_zone.proofs.zone.Zone.move_on.Goals as goal
 
 pub copy-requires : goal.copy-requires
@@ -9,7 +11,10 @@ pub take_back-requires : goal.take_back-requires
 take_back-requires g c = ?
 
 pub returns-in-Err-clause-moves : goal.returns-in-Err-clause-moves
-returns-in-Err-clause-moves g c = ?
+returns-in-Err-clause-moves g c =
+    (refl,
+    stays_so c.of_zones.ensures (seen g.B.Book.account c.args.at.now) (seen g.B.Book.account c.malloc.new.at) c.args.self.now.zone c.args.n c.args.b c.in-Err.null
+    c.of_book.ensures c.in-Err.ensures.answers c.requires.moves)
 
 pub returns-clause-moves : goal.returns-clause-moves
 returns-clause-moves g c = ?

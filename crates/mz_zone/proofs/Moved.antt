@@ -1,8 +1,8 @@
 -- What becomes of a block that has to move.
 use Rattle.std.proofs.Common.{◌≡◌, ℕ, ◌+◌, ◌≤◌, Bool, true, false, List, [], ◌∷◌, ◌++◌, Option, None, Some, length, refl, ap, sym, subst, ◌∙◌, arith, inl, inr, length-append}
-use Rattle.std.specs.Prelude.{Ok, Err, Result, IsTrue, Contains}
+use Rattle.std.specs.Prelude.{Ok, Err, Result, IsTrue, Contains, ◌||◌}
 use Rattle.mz_base.specs.declared.profile.Profile.{Profile}
-use Rattle.mz_base.specs.Space.{Block}
+use Rattle.mz_base.specs.Space.{Block, same_block}
 use Rattle.mz_base.specs.Sizes.{good_size_of}
 use Rattle.mz_base.specs.Lists.{has_block, drop_block}
 use Rattle.mz_events.specs.declared.entry.Entry.{Entry}
@@ -10,7 +10,9 @@ use Rattle.mz_events.specs.State.{opening}
 use Rattle.mz_events.specs.History.{AreLawful}
 use Rattle.mz_record.specs.Moments.{state_at}
 use Rattle.mz_record.specs.Resized.{Moves, to_nothing, between_ranges, out_of_nano, large, hemmed_in, WasHemmedIn, IsHemmedIn, not_moved}
-use Rattle.mz_book.specs.Account.{IsOrderly}
+use Rattle.std.proofs.lemmas.Bool.{false≢true}
+use Rattle.mz_book.specs.Account.{IsOrderly, hand}
+use Rattle.mz_book.specs.Pairs.{hand_among}
 use Rattle.mz_rack.specs.declared.lot.Null.{Null}
 use Rattle.mz_zone.specs.Blocks.{BlockView, block_of}
 use Rattle.mz_zone.specs.Calling.{AtView, Goes}
@@ -62,3 +64,18 @@ stays_so laws v w z n b e orderly a moves =
       hand = a.hand;
       tries = a.tries;
     }
+
+has_front : (xs ys : List Block) (b : Block) → has_block xs b ≡ true → has_block (xs ++ ys) b ≡ true
+has_front [] ys b h = absurd (false≢true h)
+has_front (x ∷ xs) ys b h = by_test (same_block b x) refl (has_front xs ys b)
+  where
+    by_test : (t : Bool) → same_block b x ≡ t → (has_block xs b ≡ true → has_block (xs ++ ys) b ≡ true) → (same_block b x || has_block (xs ++ ys) b) ≡ true
+    by_test true e n = rw e
+    by_test false e n = rw e (n (rw e at h))
+
+-- after a request the hand has the new block behind the others
+hand_then : (laws : ZoneLaws) (v u : AtView) (z n al : ℕ) (d : BlockView) → Answers v z n al (Ok d) u → hand u.book ≡ hand v.book ++ block_of d ∷ []
+hand_then laws v u z n al d a =
+    ap (λ c. hand_among c u.book.pairs) a.goes.adds.same.caller
+    ∙ (ap (hand_among v.book.caller) a.goes.adds.pairs
+    ∙ (laws.through v.book.caller v.book.pairs a.mine ∙ laws.hand_served _ _ _ a.mine _ (hand v.book) a.serves.served))

@@ -1,5 +1,5 @@
 -- What becomes of a block that has to move.
-use Rattle.std.proofs.Common.{◌≡◌, ℕ, ◌+◌, ◌≤◌, Bool, true, false, List, [], ◌∷◌, ◌++◌, Option, None, Some, length, refl, ap, sym, subst, ◌∙◌, arith, inl, inr, length-append}
+use Rattle.std.proofs.Common.{◌≡◌, ℕ, ◌+◌, ◌<◌, ◌≤◌, Bool, true, false, List, [], ◌∷◌, ◌++◌, Option, None, Some, length, refl, ap, sym, subst, ◌∙◌, arith, inl, inr, length-append}
 use Rattle.std.specs.Prelude.{Ok, Err, Result, IsTrue, Contains, ◌||◌}
 use Rattle.mz_base.specs.declared.profile.Profile.{Profile}
 use Rattle.mz_base.specs.Space.{Block, same_block}
@@ -14,8 +14,11 @@ use Rattle.std.proofs.lemmas.Bool.{false≢true}
 use Rattle.mz_book.specs.Account.{IsOrderly, hand}
 use Rattle.mz_book.specs.Pairs.{hand_among}
 use Rattle.mz_rack.specs.declared.lot.Null.{Null}
-use Rattle.mz_zone.specs.Blocks.{BlockView, block_of}
-use Rattle.mz_zone.specs.Calling.{AtView, Goes}
+use Rattle.mz_nano.specs.declared.view.Held.{Held}
+use Rattle.mz_nano.specs.Lists.{In}
+use Rattle.mz_nano.specs.SeatLists.{hand_of, first_of}
+use Rattle.mz_zone.specs.Blocks.{BlockView, block_of, slot_added}
+use Rattle.mz_zone.specs.Calling.{AtView, Seated, Goes, HasSlot, IsHandedIn, StaysSeated, hand_in}
 use Rattle.mz_zone.specs.Answering.{Answers}
 use Rattle.mz_zone.specs.Moving.{IsBefore, MovesOn}
 use Rattle.mz_zone.specs.Resizing.{MovesNow}
@@ -79,3 +82,26 @@ hand_then laws v u z n al d a =
     ap (λ c. hand_among c u.book.pairs) a.goes.adds.same.caller
     ∙ (ap (hand_among v.book.caller) a.goes.adds.pairs
     ∙ (laws.through v.book.caller v.book.pairs a.mine ∙ laws.hand_served _ _ _ a.mine _ (hand v.book) a.serves.served))
+
+in_added : (o : Option Held) (h : Held) (hs : List Held) → In h hs → In h (slot_added o hs)
+in_added None h hs i = i
+in_added (Some x) h hs i = inr i
+
+-- a slot that was in the seat's hand still is where another came
+slot_stays :
+    (m k : Option Seated) (base : ℕ) (s o : Option Held) → StaysSeated m k → hand_in k ≡ slot_added o (hand_in m) → HasSlot m base s → HasSlot k base s
+slot_stays m k base None o st e has = tt
+slot_stays None k base (Some h) o st e has = absurd has
+slot_stays (Some x) None base (Some h) o st e has = absurd st
+slot_stays (Some x) (Some y) base (Some h) o st e has =
+    (has.0 ∙ sym (ap first_of st.0), subst (λ hs. In h hs) (sym e) (in_added o h (hand_of x.seat) has.1))
+
+-- a block that was handed in still is, once another was made
+pub still_handed : (laws : ZoneLaws) (v u : AtView) (z n al : ℕ) (d b : BlockView) → Answers v z n al (Ok d) u → IsHandedIn v b → IsHandedIn u b
+still_handed laws v u z n al d b a h = record {
+  in_hand = subst (λ hs. has_block hs (block_of b) ≡ true) (sym (hand_then laws v u z n al d a)) (has_front (hand v.book) (block_of d ∷ []) (block_of b) h.in_hand);
+  zone = subst (λ (p : Profile). b.zone < p.zones) (sym a.goes.adds.same.profile) h.zone;
+  zone_open = a.goes.adds.zones b.zone ∙ h.zone_open;
+  space = h.space ∙ sym a.goes.adds.same.site;
+  slot = slot_stays v.nano u.nano b.base b.slot d.slot a.goes.nano a.hand h.slot;
+}

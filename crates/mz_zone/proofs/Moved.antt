@@ -1,5 +1,5 @@
 -- What becomes of a block that has to move.
-use Rattle.std.proofs.Common.{◌≡◌, ℕ, ◌+◌, ◌<◌, ◌≤◌, Bool, true, false, List, [], ◌∷◌, ◌++◌, Option, None, Some, length, refl, ap, sym, subst, ◌∙◌, arith, inl, inr, length-append}
+use Rattle.std.proofs.Common.{◌≡◌, ℕ, ◌+◌, ◌*◌, ◌<◌, ◌≤◌, Bool, true, false, List, [], ◌∷◌, ◌++◌, Option, None, Some, length, refl, ap, sym, subst, ◌∙◌, arith, inl, inr, length-append}
 use Rattle.std.specs.Prelude.{Ok, Err, Result, IsTrue, Contains, ◌||◌}
 use Rattle.mz_base.specs.declared.profile.Profile.{Profile}
 use Rattle.mz_base.specs.Space.{Block, same_block}
@@ -11,14 +11,16 @@ use Rattle.mz_events.specs.History.{AreLawful}
 use Rattle.mz_record.specs.Moments.{state_at}
 use Rattle.mz_record.specs.Resized.{Moves, to_nothing, between_ranges, out_of_nano, large, hemmed_in, WasHemmedIn, IsHemmedIn, not_moved}
 use Rattle.std.proofs.lemmas.Bool.{false≢true}
-use Rattle.mz_book.specs.Account.{IsOrderly, hand}
+use Rattle.mz_book.specs.Account.{Account, IsOrderly, hand}
 use Rattle.mz_book.specs.Pairs.{hand_among}
 use Rattle.mz_rack.specs.declared.lot.Null.{Null}
 use Rattle.mz_nano.specs.declared.view.Held.{Held}
 use Rattle.mz_nano.specs.Lists.{In}
-use Rattle.mz_nano.specs.SeatLists.{hand_of, first_of}
+use Rattle.mz_nano.specs.SeatLists.{hand_of, first_of, blocks_of, space_of}
+use Rattle.mz_base.specs.declared.range.TheConstants.{PAGE}
+use Rattle.mz_events.specs.Places.{nano_start}
 use Rattle.mz_zone.specs.Blocks.{BlockView, block_of, slot_added}
-use Rattle.mz_zone.specs.Calling.{AtView, Seated, Goes, HasSlot, IsHandedIn, StaysSeated, hand_in}
+use Rattle.mz_zone.specs.Calling.{AtView, Seated, CanCall, Goes, HasSlot, IsHandedIn, IsSeatedAt, StaysSeated, hand_in}
 use Rattle.mz_zone.specs.Answering.{Answers}
 use Rattle.mz_zone.specs.Moving.{IsBefore, MovesOn}
 use Rattle.mz_zone.specs.Resizing.{MovesNow}
@@ -52,9 +54,9 @@ stays_so laws v w z n b e orderly a moves =
     let more : List Entry = a.goes.adds.more in
     let seen : w.book.seen ≡ v.book.seen ++ more = a.goes.adds.seen in
     let lawful : AreLawful v.book.profile opening (v.book.seen ++ more) =
-        subst (λ h. AreLawful v.book.profile opening h) seen (subst (λ p. AreLawful p opening w.book.seen) a.goes.adds.same.profile orderly.lawful) in
+    subst (λ h. AreLawful v.book.profile opening h) seen (subst (λ p. AreLawful p opening w.book.seen) a.goes.adds.same.profile orderly.lawful) in
     let later : Moves v.book.profile (v.book.seen ++ more) (length v.book.seen) (length v.book.seen) (block_of b) n =
-        moves_later laws v.book.profile v.book.seen more (length v.book.seen) (block_of b) n lawful (omega arith) moves in
+    moves_later laws v.book.profile v.book.seen more (length v.book.seen) (block_of b) n lawful (omega arith) moves in
     record {
       mine = a.mine;
       goes = a.goes;
@@ -104,4 +106,29 @@ still_handed laws v u z n al d b a h = record {
   zone_open = a.goes.adds.zones b.zone ∙ h.zone_open;
   space = h.space ∙ sym a.goes.adds.same.site;
   slot = slot_stays v.nano u.nano b.base b.slot d.slot a.goes.nano a.hand h.slot;
+}
+
+-- nano is the book's still
+seated_after :
+    (s t : Account) (m k : Option Seated) → StaysSeated m k → t.profile ≡ s.profile → t.site ≡ s.site → IsSeatedAt s m → IsSeatedAt t k
+seated_after s t None None st p e i = tt
+seated_after s t None (Some y) st p e i = absurd st
+seated_after s t (Some x) None st p e i = absurd st
+seated_after s t (Some x) (Some y) st p e i = record {
+  seat = st.1;
+  first = ap first_of st.0 ∙ (i.first ∙ sym (ap (λ (q : Profile). nano_start q * PAGE) p));
+  blocks = ap blocks_of st.0 ∙ (i.blocks ∙ sym (ap (λ (q : Profile). q.nano) p));
+  space = ap space_of st.0 ∙ (i.space ∙ sym e);
+}
+
+-- A call may be made after one that left room.
+pub can_then : (v u : AtView) (p : Profile) (z m n : ℕ) (mine : List Entry) → CanCall v p z m → Goes v mine u → n ≤ u.book.spare → CanCall u p z n
+can_then v u p z m n mine can goes room = record {
+  serve = record {
+    profile = goes.adds.same.profile ∙ can.serve.profile;
+    zone_open = goes.adds.zones z ∙ can.serve.zone_open;
+    nothing_held = goes.nothing_held;
+    room = room;
+  };
+  nano = seated_after v.book u.book v.nano u.nano goes.nano goes.adds.same.profile goes.adds.same.site can.nano;
 }

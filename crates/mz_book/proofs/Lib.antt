@@ -13,6 +13,8 @@ mod DutyLemmas
 mod SlotLemmas
 mod NanoLemmas
 mod HandLemmas
+mod OneHandLemmas
+mod HandedLemmas
 mod PlainLemmas
 mod NoteLemmas
 mod OwnLemmas

@@ -7,7 +7,7 @@ use Rattle.std.proofs.lemmas.Bool.Decides.{nat_tests}
 use Rattle.mz_base.specs.declared.profile.Profile.{Profile}
 use Rattle.mz_base.specs.Limits.{IsWithinLimits}
 use Rattle.mz_base.specs.Site.{Site}
-use Rattle.mz_base.specs.Space.{Block, block_at, page_of}
+use Rattle.mz_base.specs.Space.{Block, page_of}
 use Rattle.mz_events.specs.declared.place.Place.{Place}
 use Rattle.mz_events.specs.declared.place.Place.TheVariants.{Pages, Tiny, TinyDepot, Small, SmallDepot, Large, Nano}
 use Rattle.mz_events.specs.declared.entry.Entry.{Entry}
@@ -22,15 +22,14 @@ use Rattle.mz_book.specs.declared.light.Asked.{Asked}
 use Rattle.mz_book.specs.declared.pair.Pair.{Pair}
 use Rattle.mz_book.specs.HistoryLaws.{HistoryLaws}
 use Rattle.mz_book.specs.Keepers.{keeper_count, keeper_spot, place_at, is_among}
-use Rattle.mz_book.specs.Pairs.{pair_at, pairs_after}
+use Rattle.mz_book.specs.Pairs.{pairs_after}
 use Rattle.mz_book.specs.Account.{Account, is_live}
 use Rattle.mz_book.specs.Calls.{is_at_nano, CanNote, CanNoteAtNano, opened_after}
 use Rattle.mz_book.specs.Living.{lives_after}
 use Rattle.mz_book.specs.Rule.{AreInOneHand, AreOfClass, AreWords}
 use Rattle.mz_book.specs.Plain.{plain_account}
 use Rattle.mz_book.proofs.NumberLemmas.{held_number, not_nano}
-use Rattle.mz_book.proofs.OwnerLemmas.{hand_new, hand_end, hand_size, hand_same}
-use Rattle.mz_book.proofs.LiveLemmas.{new_is_fresh, sized_is_fresh}
+use Rattle.mz_book.proofs.OneHandLemmas.{one_then}
 use Rattle.mz_book.proofs.NanoLemmas.{words_elsewhere, class_elsewhere, new_fits, new_class, new_words, end_fits, end_class, end_words, no_fits, no_class, no_words}
 
 pub nano_is : (k : Place) → is_nano k ≡ true → k ≡ Nano
@@ -164,21 +163,8 @@ module _ (L : HistoryLaws) (p : Profile) (c : ℕ) (x : Site) (es : List Entry) 
   ]
 
   -- each live block is in one hand still
-  one_after : (e : Event) → Fits p st c e → CanNote A e → ((b : Block) → is_live (after p st c e) b ≡ lives_after e b (is_live st b)) → AreInOneHand (after p st c e) (pairs_after c pairs e)
-  one_after (New k a n al) f can live = hand_new st (after p st c (New k a n al)) pairs (pair_at c a n) live (new_is_fresh L p es c ok k a n al f) one
-  one_after (End k a n) f can live = hand_end st (after p st c (End k a n)) pairs c (block_at a n) live can.in_hand one
-  one_after (Size k a n m) f can live = hand_size st (after p st c (Size k a n m)) pairs c (block_at a n) m live (sized_is_fresh L p es c ok k a n m f) can.in_hand one
-  one_after (Take k g w) f can live = hand_same st (after p st c (Take k g w)) pairs live one
-  one_after (Back k g w) f can live = hand_same st (after p st c (Back k g w)) pairs live one
-  one_after (Move g from to) f can live = hand_same st (after p st c (Move g from to)) pairs live one
-  one_after (Full k n al) f can live = hand_same st (after p st c (Full k n al)) pairs live one
-  one_after (Dry z w al) f can live = hand_same st (after p st c (Dry z w al)) pairs live one
-  one_after (No k z a n) f can live = hand_same st (after p st c (No k z a n)) pairs live one
-  one_after (Open z) f can live = hand_same st (after p st c (Open z)) pairs live one
-  one_after (Shut z) f can live = hand_same st (after p st c (Shut z)) pairs live one
-
   pub note_one : (e : Event) → CanNote A e → ((b : Block) → is_live (after p st c e) b ≡ lives_after e b (is_live st b)) → AreInOneHand (after p st c e) (pairs_after c pairs e)
-  note_one e can live = one_after e (note_fits e can) can live
+  note_one e can live = one_then L p es c ok pairs one e (note_fits e can) can.in_hand live
 
   -- a keeper at home is touched by none of this
   nano_far : (e : Event) (k : ℕ) → is_at_nano e ≡ true → CanNoteAtNano A e → touches p e (keeper_spot p k) ≡ false

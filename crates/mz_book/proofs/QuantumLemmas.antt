@@ -152,7 +152,7 @@ module _ (q : List ℕ) (c : ℕ) (b : Block) (mine : get_or q (quantum_at b.fir
   told_size m (x ∷ bs) =
       size_case m x (map (owned_pair q) (map (λ y. cond (same_block b y) (block_at b.first m) y) bs)) (map (resized_pair c b m) (map (owned_pair q) bs)) (same_block b x) (is_pair c b (owned_pair q x)) (agrees x) (same_true b x) (told_size m bs)
 
-through_snoc : (bs : List Block) (es : List Entry) (e : Entry) → hand_through bs (es ++ e ∷ []) ≡ hand_after (hand_through bs es) e.event
+pub through_snoc : (bs : List Block) (es : List Entry) (e : Entry) → hand_through bs (es ++ e ∷ []) ≡ hand_after (hand_through bs es) e.event
 through_snoc bs [] e = refl
 through_snoc bs (x ∷ es) e = through_snoc (hand_after bs x.event) es e
 
@@ -273,7 +273,7 @@ module _ (L : HistoryLaws) (p : Profile) (fit : AllFit p) (es : List Entry) (ok 
   note_inside (Open z) f live = tt
   note_inside (Shut z) f live = tt
 
-  told_then : (e : Event) → Fits p s c e → Lives e → is_in_hand (hand_among c (pairs_told q es)) e ≡ true → map (owned_pair (quanta_after c q e)) (hand_after (hand_through [] es) e) ≡ pairs_after c (pairs_told q es) e
+  pub told_then : (e : Event) → Fits p s c e → Lives e → is_in_hand (hand_among c (pairs_told q es)) e ≡ true → map (owned_pair (quanta_after c q e)) (hand_after (hand_through [] es) e) ≡ pairs_after c (pairs_told q es) e
   told_then (New k a n al) f live mine = told_new q c a n (hand_through [] es) (new_inside k a n al f live) (new_far k a n al f live)
   told_then (End k a n) f live mine = told_end q c (block_at a n) (owner_is q c (block_at a n) (hand_through [] es) mine) (hand_through [] es)
   told_then (Size k a n m) f live mine = told_size q c (block_at a n) (owner_is q c (block_at a n) (hand_through [] es) mine) m (hand_through [] es)

@@ -3,8 +3,10 @@ pub mod Pairs
 pub mod Owners
 pub mod Lights
 pub mod Account
+pub mod Exchanges
 pub mod Calls
 pub mod Rule
+pub mod Handed
 pub mod Plain
 pub mod Parts
 pub mod Growth

@@ -3,6 +3,7 @@
 //!
 //! - `numbers`: keeper numbers and places, both ways.
 //! - `hands`: a caller's hand after events, and that what is in it is live.
+//! - `owners`: owners and hands after entries of callers.
 //! - `slots`: slots of nano whose pairs are in the hand, and lights that are held.
 //! - `live`: what is live after an event.
 //! - `notes`: what an event leaves of hands, lights and classes.
@@ -18,6 +19,7 @@ mod histories;
 pub mod live;
 pub mod notes;
 pub mod numbers;
+pub mod owners;
 pub mod shared;
 pub mod slots;
 

@@ -36,7 +36,7 @@ pub mod plain;
 mod tests;
 
 pub use book::Book;
-pub use light::{Asked, Found, Light};
+pub use light::{Asked, Clash, Found, Light};
 pub use pair::Pair;
 pub use parts::Parts;
 pub use plain::PlainBook;

@@ -2,7 +2,7 @@
 ghost use Rattle.std.specs.Prelude.{◌≡◌};
 ghost use Rattle.mz_book.specs.Lights.{light_at};
 
-/// The held word of one slot of nano. `hold_light` alone makes it, and `release_light` takes it back. If it is dropped the slot stays
+/// The held word of one slot of nano. A book's `hold_light` makes it, and `release_light` takes it back. If it is dropped the slot stays
 /// held.
 #[derive(Drop)]
 pub struct Light {
@@ -38,6 +38,14 @@ impl Light {
 #[derive(Clone, Copy, Debug, PartialEq, Eq)]
 pub struct Found {
     pub word: u64,
+}
+
+/// An exchange that found another word than it expected, at the place `word` of a table of words. It is for proofs alone: no value of it is
+/// made.
+pub struct Clash {
+    pub word: usize,
+    pub expected: u64,
+    pub found: u64,
 }
 
 /// What a call asked for.

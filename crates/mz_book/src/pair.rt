@@ -2,9 +2,11 @@
 ghost use Rattle.std.specs.Prelude.{◌≡◌, ◌<◌, slice_set, vec_len};
 ghost use Rattle.std.specs.Vec.{vec_capacity};
 ghost use Rattle.mz_book.specs.Calls.{without};
+ghost use Rattle.std.specs.List.{All};
 ghost use Rattle.mz_book.specs.Owners.{quantum_at, quanta_after, BeginsWithin};
+ghost use Rattle.mz_book.specs.Handed.{quanta_since};
 
-use mz_events::Event;
+use mz_events::{Entry, Event};
 
 /// A live block, by its first address and its size in bytes, and the caller who owns it.
 #[derive(Clone, Copy, Debug, PartialEq, Eq)]
@@ -32,6 +34,18 @@ pub(crate) fn own(quanta: &mut Vec<u8>, caller: u8, event: Event)
     match event {
         Event::New { a, .. } => set_owner(quanta, a, caller),
         _ => {}
+    }
+}
+
+/// Each block that these entries make is its caller's.
+pub fn own_all(quanta: &mut Vec<u8>, entries: &[Entry])
+    requires within { All (λ e. BeginsWithin quanta.old.items e.event) entries.now }
+    requires callers { All (λ e. e.caller < 256) entries.now }
+    ensures items { quanta.new.items ≡ quanta_since quanta.old.items entries.now }
+    ensures len { vec_len quanta.new ≡ vec_len quanta.old }
+{
+    for entry in entries {
+        own(quanta, entry.caller as u8, entry.event);
     }
 }
 

@@ -86,8 +86,11 @@ fn word_of(live: bool) -> u64
 impl<V: Keep> Book<V> for PlainBook<V> {
     ghost use Rattle.std.specs.Prelude.{refl};
     ghost use Rattle.mz_book.specs.Plain.{plain_account, few_noted, few_seen, at_most};
+    ghost use Rattle.mz_book.specs.Exchanges.{no_exchanges};
 
     ghost account = { λ b. plain_account b.profile b.caller (site_of (V.keeping b.site.value)) b.history.items b.limit b.held.items (pairs_told b.quanta.items b.history.items) b.classes.items b.slots.items b.holds b.founds b.found };
+
+    ghost exchanges = { λ _. no_exchanges };
 
     fn caller(&self) -> u32 {
         self.caller

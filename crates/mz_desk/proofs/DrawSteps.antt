@@ -25,7 +25,7 @@ use Rattle.mz_events.specs.Changes.{one_for}
 use Rattle.mz_events.specs.Effect.{touches, after}
 use Rattle.mz_events.specs.Rules.{Fits}
 use Rattle.mz_events.specs.History.{AreLawful, after_all}
-use Rattle.mz_events.specs.Hands.{own, hand_after}
+use Rattle.mz_events.specs.Hands.{own, hand_after, hand_through}
 use Rattle.mz_events.specs.Holding.{changes_zones, IsAway, AreAway, IsKnownThrough}
 use Rattle.mz_events.specs.Standing.{Keeping, Stands}
 use Rattle.mz_book.specs.declared.pair.Pair.{Pair}
@@ -36,6 +36,7 @@ use Rattle.mz_book.specs.Account.{Account, is_live, entry_at, state_of, hand, cl
 use Rattle.mz_book.specs.Calls.{CanNote, CanNoteAtNano}
 use Rattle.mz_book.specs.Noting.{HandsAreKept, NoteIsKept}
 use Rattle.mz_book.specs.Rule.{AreInOneHand}
+use Rattle.mz_book.specs.Handed.{pairs_since}
 use Rattle.mz_desk.specs.declared.view.Since.{Since}
 use Rattle.mz_desk.specs.declared.view.TakenIn.{TakenIn}
 use Rattle.mz_desk.specs.declared.view.View.{View}
@@ -440,7 +441,12 @@ module _ {V : Type 0} (keeping : V → Keeping) (key : Opened) (L : DeskLaws) (i
       let a = taken_stays key s.views id v w later x at live t in
       let d = t.spent in
       let ne : e.caller ≢ x.caller = λ y. let vu : v ≡ d.view = some-injective v d.view (sym at ∙ (ap (get_elem? s.views) (sym f.caller ∙ y) ∙ d.at)) in false≢true (sym d.spent ∙ (ap (λ (z : View). z.live) (sym vu) ∙ live)) in
-      record { rest = t.rest ++ e ∷ []; seen = long ∙ (ap (λ (es : List Entry). es ++ e ∷ []) t.seen ∙ append_assoc x.seen t.rest (e ∷ [])); hand = t.hand; noted = t.noted ∙ sym (L.own_joined x.caller later (e ∷ []) ∙ (ap (λ (es : List Entry). own x.caller later ++ es) (own_none x.caller e ne) ∙ append-nil (own x.caller later))); spent = a.spent }
+      record { rest = t.rest ++ e ∷ []; seen = long ∙ (ap (λ (es : List Entry). es ++ e ∷ []) t.seen ∙ append_assoc x.seen t.rest (e ∷ [])); whose = t.whose; hand = t.hand; noted = t.noted ∙ sym (L.own_joined x.caller later (e ∷ []) ∙ (ap (λ (es : List Entry). own x.caller later ++ es) (own_none x.caller e ne) ∙ append-nil (own x.caller later))); spent = a.spent }
+
+  -- what the event ends, resizes or denies is in the hand, which the seat's record makes
+  in_mine : is_in_hand (hand_among e.caller (pairs_since key.pairs later)) ev ≡ true
+  in_mine = subst (λ c. is_in_hand (hand_among c (pairs_since key.pairs later)) ev ≡ true) (sym f.caller)
+      (ap (λ bs. is_in_hand bs ev) (L.hand_since id key.pairs later ∙ sym (f.hand ∙ ap (hand_through (hand_among id key.pairs)) f.noted)) ∙ can_here.in_hand)
 
   drawn_history : HistoryKeeps key (get_or words' 0 0) (length (set s.views id w)) later'
   drawn_history =
@@ -465,6 +471,7 @@ module _ {V : Type 0} (keeping : V → Keeping) (key : Opened) (L : DeskLaws) (i
             (cases_eq x id);
         below = subst (λ (x : ℕ). All (λ (d : Entry). d.caller < x) later') (sym len) (All-push (λ (d : Entry). d.caller < length s.views) later e kept.history.below (omega arith));
         no_zone = All-push (λ (d : Entry). changes_zones d.event ≡ false) later e kept.history.no_zone no_zone;
+        handed = L.handed_more key.pairs later e kept.history.handed in_mine;
       }
 
   drawn_locks : LocksKeep keeping key st' words' s.homes (set s.views id w)

@@ -8,6 +8,7 @@ use mathlib.Core.Option as m
 use mathlib.Core.Option.{some-injective}
 use lib.ListN.{get_elem?}
 use Rattle.atomic_table.specs.Table as table
+use Rattle.mz_base.specs.declared.profile.Profile.{Profile}
 use Rattle.mz_events.specs.declared.entry.Entry.{Entry}
 use Rattle.mz_events.specs.Changes.{one_for}
 use Rattle.mz_events.specs.Standing.{Keeping}
@@ -50,14 +51,12 @@ module _ {V : Type 0} (keeping : V → Keeping) (key : Opened) (s : table.State 
   at0 : get_elem? s.views 0 ≡ m.some v
   at0 = ap (get_elem? s.views) (sym id0) ∙ at
 
-  given : v.given ≡ length s.views
-  given = kept.hands.gives v at0 all.live
-
   -- each other seat is spent
   others_spent : (i : ℕ) (u : View) → get_elem? s.views i ≡ m.some u → 1 ≤ i → u.live ≡ false
   others_spent i u e l =
       let n = at_length s.views i u e in
-      let g = given in
+      let few = kept.few in
+      let p : v.profile.callers ≡ key.profile.callers = ap (λ (q : Profile). q.callers) f.profile in
       let d = spent_of key s.views later i v.joined (all.all i l (omega arith)) (kept.hands.taken id v at all.live) in
       ap (λ (z : View). z.live) (some-injective u d.view (sym e ∙ d.at)) ∙ d.spent
 
@@ -93,12 +92,15 @@ module _ {V : Type 0} (keeping : V → Keeping) (key : Opened) (s : table.State 
 
   pub ends : Ended keeping key v s.words s.homes
   ends = record {
+    opened = kept.opened.in_one_hand;
     later = later;
     counts = kept.history.counts;
     lawful = kept.history.lawful;
-    below = subst (λ (n : ℕ). All (λ (e : Entry). e.caller < n) later) (sym given) kept.history.below;
+    below = All-weaker (λ (e : Entry). e.caller < length s.views) (λ (e : Entry). e.caller < key.profile.callers) (λ e l. let few = kept.few in omega arith) later kept.history.below;
+    handed = kept.history.handed;
     mine = record { rest = f.rest; seen = f.seen; noted = f.noted ∙ ap (λ (c : ℕ). Rattle.mz_events.specs.Hands.own c later) (sym f.caller); hand = subst (λ (c : ℕ). hand_among c v.pairs ≡ Rattle.mz_events.specs.Hands.hand_through (hand_among c key.pairs) v.noted) (sym f.caller) f.hand };
     others = All-weaker (IsTaken key s.views later) (IsPartOf key later) (λ x t. record { rest = t.rest; seen = t.seen; noted = t.noted; hand = t.hand }) v.joined (kept.hands.taken id v at all.live);
+    whose = All-weaker (IsTaken key s.views later) (λ (x : TakenIn). All (λ (h : Pair). h.caller ≡ x.caller) x.pairs) (λ x t. t.whose) v.joined (kept.hands.taken id v at all.live);
     in_one_hand = λ b. ap (λ ps. owners ps b) (sym pairs) ∙ kept.hands.in_one_hand b;
     home = home;
     lights = dark;

@@ -110,7 +110,7 @@ spent_stays views id v w c at live d =
     record { view = d.view; at = set_else views id c w ne ∙ d.at; spent = d.spent }
 
 pub taken_stays : (key : Opened) (views : List View) (id : ℕ) (v w : View) (later : List Entry) (x : TakenIn) → get_elem? views id ≡ m.some v → v.live ≡ true → IsTaken key views later x → IsTaken key (set views id w) later x
-taken_stays key views id v w later x at live t = record { rest = t.rest; seen = t.seen; hand = t.hand; noted = t.noted; spent = spent_stays views id v w x.caller at live t.spent }
+taken_stays key views id v w later x at live t = record { rest = t.rest; seen = t.seen; whose = t.whose; hand = t.hand; noted = t.noted; spent = spent_stays views id v w x.caller at live t.spent }
 
 pub hands_same : (key : Opened) (st : State) (later : List Entry) (views : List View) (id : ℕ) (v w : View) → get_elem? views id ≡ m.some v → v.live ≡ true → w.live ≡ true → w.pairs ≡ v.pairs → w.given ≡ v.given → w.joined ≡ v.joined
     → HandsKeep key st later views → HandsKeep key st later (set views id w)
@@ -157,7 +157,7 @@ moves keeping key s later id v w words' homes' kept at live same lw lh counter m
       homes = lh ∙ kept.homes;
       few = let f = kept.few in omega arith;
       opened = kept.opened;
-      history = record { counts = counter ∙ h.counts; lawful = h.lawful; bounded = h.bounded; below = subst (λ (x : ℕ). All (λ (e : Entry). e.caller < x) later) (sym n) h.below; no_zone = h.no_zone };
+      history = record { counts = counter ∙ h.counts; lawful = h.lawful; bounded = h.bounded; below = subst (λ (x : ℕ). All (λ (e : Entry). e.caller < x) later) (sym n) h.below; no_zone = h.no_zone; handed = h.handed };
       locks = locks;
       seats = λ i u e l. ⊎_elim
           (λ (t : (i ≡ id) × (w ≡ u)). subst (λ (x : ℕ). SeatKeeps keeping key later words' homes' x u) (sym t.0) (subst (SeatKeeps keeping key later words' homes' id) t.1 mine))

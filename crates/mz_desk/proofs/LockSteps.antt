@@ -1,5 +1,5 @@
 -- The steps on lock words: take-lock, look and free-lock.
-use Rattle.std.proofs.Common.{◌≡◌, ◌≢◌, ℕ, ◌+◌, ◌-◌, ◌<◌, ◌==◌, true, false, List, [], ◌∷◌, ◌++◌, length, get_or, set, Option, Some, None, refl, sym, ap, ◌∙◌, subst, arith, eq-eqb, ⊎_elim, length-set, append-nil}
+use Rattle.std.proofs.Common.{◌≡◌, ◌≢◌, ℕ, ◌+◌, ◌-◌, ◌<◌, ◌≤◌, ◌==◌, true, false, List, [], ◌∷◌, ◌++◌, length, get_or, set, Option, Some, None, refl, sym, ap, ◌∙◌, subst, arith, eq-eqb, ⊎_elim, length-set, append-nil}
 use Rattle.std.specs.List.{All, list_any}
 use Rattle.std.proofs.lemmas.List.{set-get_or, get_or-set_same}
 use Rattle.std.proofs.lemmas.List.Elements.{All-nil, All-cons, All-weaker}
@@ -30,7 +30,7 @@ use Rattle.mz_desk.specs.Views.{Opened, site_at, has_lock, clashed, locked, look
 use Rattle.mz_desk.specs.Rule.{all_of, state_after, Homes, LeavesAlone, IsAloneSince, SeatKeeps, AtHome, Kept, Rule}
 use Rattle.mz_desk.specs.Needs.{Seated, CanLock, CanLook, CanFree}
 use Rattle.mz_desk.specs.Steps.{TriesLock, Looks, Frees}
-use Rattle.mz_desk.proofs.ListLemmas.{or_either, or_left, or_right, among_append, among_one, one_among, without_less, without_more, set_there}
+use Rattle.mz_desk.proofs.ListLemmas.{or_either, or_left, or_right, among_append, among_one, one_among, without_less, without_more, set_there, at_length}
 use Rattle.mz_desk.proofs.Frames.{moves, lock_owner, lights_same, classes_same, other_word, locks_same, rely_same, home_else, light_not_lock, class_not_lock}
 use Rattle.mz_desk.proofs.Knowing.{owners_part, knows_all, away_less, held_less, since_less, timed_less}
 
@@ -124,6 +124,15 @@ module _ {V : Type 0} (keeping : V → Keeping) (key : Opened) (id : ℕ) (me : 
       let h : has_lock v k ≡ true = ap (λ (z : View). has_lock z k) vs ∙ o.has_it in
       ⊎_elim (λ (t : is_among v.held k ≡ true). false≢true (sym can.fresh ∙ t)) (λ (t : is_among v.taking k ≡ true). false≢true (sym (ap (λ xs. is_among xs k) can.idle.none) ∙ t)) (or_either (is_among v.held k) (is_among v.taking k) h)
 
+  locks_most : (k : ℕ) → CanLock me.0 k → (s : table.State (Option V) View) (later : List Entry) → Kept keeping key s later → get_elem? s.views id ≡ m.some me.0 → lock_word s.words k ≢ 0 → lock_word s.words k ≤ me.0.profile.callers
+  locks_most k can s later kept at some' =
+      let f = kept.seats id me.0 at can.idle.live in
+      let o = kept.locks.owned k (subst (λ q. k < keeper_count q) f.profile can.exists) some' in
+      let is = o.is in
+      let there = at_length s.views o.seat o.view o.at in
+      let few = kept.few in
+      subst (λ q. lock_word s.words k ≤ q.callers) (sym f.profile) (omega arith)
+
   pub locks : (slots k : ℕ) → CanLock me.0 k → Allows (Rule keeping key) slots id me (k + 1) (λ n. either (n == 0) (me.0.caller + 1) n) (TriesLock (step slots (k + 1) 0 (me.0.caller + 1) m.none) me)
   locks slots k can s (later, kept) sized at small =
       let n = lock_word s.words k in
@@ -135,14 +144,14 @@ module _ {V : Type 0} (keeping : V → Keeping) (key : Opened) (id : ℕ) (me : 
         keeps,
         tt,
         (later, locks_hit k can s later kept at e),
-        record { carried = refl; from = h; got = λ z. ap (λ (x : ℕ). locked me.0 x h) i; missed = λ z. absurd (z e); other = λ y. absurd (omega arith) },
+        record { carried = refl; from = h; got = λ z. ap (λ (x : ℕ). locked me.0 x h) i; missed = λ z. absurd (z e); other = λ y. absurd (omega arith); most = omega arith },
       ))
       (λ (e : n ≢ 0). (
         clashed me.0 (k + 1) 0 n,
         keeps,
         tt,
         (later, clash_kept can.idle.live (k + 1) 0 n s later kept at),
-        record { carried = refl; from = 0; got = λ z. absurd (e z); missed = λ z. refl; other = locks_miss k can s later kept at e },
+        record { carried = refl; from = 0; got = λ z. absurd (e z); missed = λ z. refl; other = locks_miss k can s later kept at e; most = locks_most k can s later kept at e },
       ))
 
 -- look

@@ -302,7 +302,7 @@ module _ {V : Type 0} (keeping : V → Keeping) (key : Opened) (L : DeskLaws) (i
 
   -- settle-class
 
-  class_kept : (i b class n : ℕ) (wins : List Rattle.mz_desk.specs.declared.view.Win.Win) (clashes : List Rattle.mz_desk.specs.declared.view.Clash.Clash) → CanClass me.0 b class → i ≡ class_place key.profile b → (s : table.State (Option V) View) (later : List Entry) → Kept keeping key s later → get_elem? s.views id ≡ m.some me.0
+  class_kept : (i b class n : ℕ) (wins : List Rattle.mz_desk.specs.declared.view.Win.Win) (clashes : List Rattle.mz_book.specs.declared.light.Clash.Clash) → CanClass me.0 b class → i ≡ class_place key.profile b → (s : table.State (Option V) View) (later : List Entry) → Kept keeping key s later → get_elem? s.views id ≡ m.some me.0
       → (n ≡ class) → (get_or s.words i 0 ≡ 0) ⊎ (get_or s.words i 0 ≡ class)
       → Kept keeping key (stepped s i n id me.1 (record (knowing me.0 b class) { wins = wins; clashes = clashes }) keeps) later
   class_kept i b class n wins clashes can is s later kept at n_is found =

@@ -91,6 +91,7 @@ module _ {V : Type 0} (keeping : V → Keeping) (key : Opened) (ws : List ℕ) (
       bounded = λ c. omega arith;
       below = All-nil (λ (e : Entry). e.caller < 1);
       no_zone = All-nil (λ (e : Entry). changes_zones e.event ≡ false);
+      handed = tt;
     };
     locks = record {
       free = λ k l z. subst (λ (t : State). AtHome keeping key t (map m.some ks) k) (sym state_same) (can.home k l);

@@ -241,7 +241,7 @@ module _ {V : Type 0} (keeping : V → Keeping) (key : Opened) (L : DeskLaws) (i
         (λ (t : (0 ≡ length views1) × (b ≡ u)). let y = id_few in let z = len1 in absurd (omega arith))
         (snoc_at views1 b u 0 e);
     taken = λ i u e l. ⊎_elim
-        (λ (t : get_elem? views1 i ≡ m.some u). All-weaker (IsTaken key s.views later) (IsTaken key views' later) (λ x q. record { rest = q.rest; seen = q.seen; hand = q.hand; noted = q.noted; spent = spent_longer views1 b x.caller (spent_stays s.views id v a x.caller at can.live q.spent) }) u.joined
+        (λ (t : get_elem? views1 i ≡ m.some u). All-weaker (IsTaken key s.views later) (IsTaken key views' later) (λ x q. record { rest = q.rest; seen = q.seen; whose = q.whose; hand = q.hand; noted = q.noted; spent = spent_longer views1 b x.caller (spent_stays s.views id v a x.caller at can.live q.spent) }) u.joined
         (⊎_elim
         (λ (y : (i ≡ id) × (a ≡ u)). subst (λ (z : View). All (IsTaken key s.views later) z.joined) y.1 (kept.hands.taken id v at can.live))
         (λ (y : (i ≢ id) × (get_elem? s.views i ≡ m.some u)). kept.hands.taken i u y.1 l)
@@ -293,7 +293,7 @@ module _ {V : Type 0} (keeping : V → Keeping) (key : Opened) (L : DeskLaws) (i
         homes = kept.homes;
         few = omega arith;
         opened = kept.opened;
-        history = record { counts = h.counts; lawful = h.lawful; bounded = h.bounded; below = All-weaker (λ (e : Entry). e.caller < new) (λ (e : Entry). e.caller < length views') (λ e t. omega arith) later h.below; no_zone = h.no_zone };
+        history = record { counts = h.counts; lawful = h.lawful; bounded = h.bounded; below = All-weaker (λ (e : Entry). e.caller < new) (λ (e : Entry). e.caller < length views') (λ e t. omega arith) later h.below; no_zone = h.no_zone; handed = h.handed };
         locks = record {
           free = kept.locks.free;
           owned = λ k x z. let o = lock_owner s.words s.words s.views id v a k refl at can.live (λ y q. q) (kept.locks.owned k x z) in record { seat = o.seat; view = o.view; at = at_longer views1 (b ∷ []) o.seat o.view o.at; live = o.live; is = o.is; has_it = o.has_it };
@@ -427,9 +427,9 @@ module _ {V : Type 0} (keeping : V → Keeping) (key : Opened) (L : DeskLaws) (i
         (λ (t : (i ≢ other) × (get_elem? viewsb i ≡ m.some u)). ⊎_elim
         (λ (y : (i ≡ id) × (both ≡ u)). subst (λ (z : View). All (IsTaken key viewsj later) z.joined) y.1
         (All-cons (IsTaken key viewsj later) (record { caller = w.caller; seen = w.seen; noted = w.noted; pairs = w.pairs }) v.joined
-        record { rest = fw.rest; seen = fw.seen; hand = subst (λ (c : ℕ). hand_among c w.pairs ≡ hand_through (hand_among c key.pairs) w.noted) (sym fw.caller) fw.hand; noted = fw.noted ∙ ap (λ (n : ℕ). own n later) (sym fw.caller); spent = subst (IsSpent viewsj) (sym fw.caller) (record { view = spent_view; at = spent_at; spent = refl }) }
-        (All-weaker (IsTaken key s.views later) (IsTaken key viewsj later) (λ x a. record { rest = a.rest; seen = a.seen; hand = a.hand; noted = a.noted; spent = keep_spent x.caller a.spent }) v.joined (kept.hands.taken id v at can.live))))
-        (λ (y : (i ≢ id) × (get_elem? s.views i ≡ m.some u)). All-weaker (IsTaken key s.views later) (IsTaken key viewsj later) (λ x a. record { rest = a.rest; seen = a.seen; hand = a.hand; noted = a.noted; spent = keep_spent x.caller a.spent }) u.joined (kept.hands.taken i u y.1 l))
+        record { rest = fw.rest; seen = fw.seen; whose = subst (λ (c : ℕ). All (λ (h : Pair). h.caller ≡ c) w.pairs) (sym fw.caller) its_own; hand = subst (λ (c : ℕ). hand_among c w.pairs ≡ hand_through (hand_among c key.pairs) w.noted) (sym fw.caller) fw.hand; noted = fw.noted ∙ ap (λ (n : ℕ). own n later) (sym fw.caller); spent = subst (IsSpent viewsj) (sym fw.caller) (record { view = spent_view; at = spent_at; spent = refl }) }
+        (All-weaker (IsTaken key s.views later) (IsTaken key viewsj later) (λ x a. record { rest = a.rest; seen = a.seen; whose = a.whose; hand = a.hand; noted = a.noted; spent = keep_spent x.caller a.spent }) v.joined (kept.hands.taken id v at can.live))))
+        (λ (y : (i ≢ id) × (get_elem? s.views i ≡ m.some u)). All-weaker (IsTaken key s.views later) (IsTaken key viewsj later) (λ x a. record { rest = a.rest; seen = a.seen; whose = a.whose; hand = a.hand; noted = a.noted; spent = keep_spent x.caller a.spent }) u.joined (kept.hands.taken i u y.1 l))
         (at_set s.views id i both u t.1))
         (at_set viewsb other i spent_view u e);
     spent = λ i u e l. ⊎_elim
@@ -494,7 +494,7 @@ module _ {V : Type 0} (keeping : V → Keeping) (key : Opened) (L : DeskLaws) (i
         homes = kept.homes;
         few = let a = kept.few in omega arith;
         opened = kept.opened;
-        history = record { counts = h.counts; lawful = h.lawful; bounded = h.bounded; below = subst (λ (n : ℕ). All (λ (e : Entry). e.caller < n) later) (sym l) h.below; no_zone = h.no_zone };
+        history = record { counts = h.counts; lawful = h.lawful; bounded = h.bounded; below = subst (λ (n : ℕ). All (λ (e : Entry). e.caller < n) later) (sym l) h.below; no_zone = h.no_zone; handed = h.handed };
         locks = joined_locks;
         seats = λ i u e y. ⊎_elim
             (λ (t : (i ≡ other) × (spent_view ≡ u)). absurd (false≢true (ap (λ (z : View). z.live) t.1 ∙ y)))

@@ -4,13 +4,14 @@ use Rattle.std.specs.List.{All}
 use Rattle.mz_events.specs.declared.entry.Entry.{Entry}
 use Rattle.mz_events.specs.State.{opening}
 use Rattle.mz_events.specs.Changes.{one_for}
-use Rattle.mz_events.specs.History.{AreLawful}
+use Rattle.mz_events.specs.History.{AreLawful, after_all}
 use Rattle.mz_events.specs.Hands.{own, hand_through}
 use Rattle.mz_events.specs.Standing.{Keeping}
 use Rattle.mz_book.specs.Keepers.{keeper_count}
 use Rattle.mz_book.specs.Pairs.{hand_among}
 use Rattle.mz_book.specs.Lights.{is_slot_live}
 use Rattle.mz_book.specs.Rule.{AreInOneHand}
+use Rattle.mz_book.specs.Handed.{AreHanded}
 use Rattle.mz_desk.specs.declared.view.TakenIn.{TakenIn}
 use Rattle.mz_desk.specs.declared.view.View.{View}
 use Rattle.mz_desk.specs.Words.{light_word}
@@ -24,9 +25,10 @@ pub record TookAll (v : View) : Type 0 where
   pub no_keeper : v.held ≡ []
   pub none_taking : v.taking ≡ []
   pub no_light : v.lights ≡ []
-  pub all : (c : ℕ) → 1 ≤ c → c < v.given → took_in v c ≡ true
+  pub all : (c : ℕ) → 1 ≤ c → c < v.profile.callers → took_in v c ≡ true
 
--- what a seat had seen begins the history; its record is all that its caller has in it since the opening, and its hand what that makes of the one at the opening
+-- What a seat had seen begins the history; its record is all that its caller has in it since the opening, and its hand what that makes of
+-- the one at the opening.
 pub record IsPartOf (key : Opened) (later : List Entry) (x : TakenIn) : Type 0 where
   pub rest : List Entry
   pub seen : all_of key later ≡ x.seen ++ rest
@@ -37,15 +39,19 @@ pub record IsPartOf (key : Opened) (later : List Entry) (x : TakenIn) : Type 0 w
 abbrev pub part_of : View → TakenIn
 part_of v = record { caller = v.caller; seen = v.seen; noted = v.noted; pairs = v.pairs }
 
--- The history is lawful, the counter is its length, and each entry since the opening is of a seat; all seats' records are parts of it; all
--- keepers are at home; and slot and class words say what is live.
+-- At the opening each live block was in exactly one hand. The history is lawful, the counter is its length, and each entry since the
+-- opening is of a caller, and ends, resizes and denies only what is in its hand then; all seats' records are parts of it, and the pairs of
+-- those that were taken in are their callers'; all keepers are at home; and slot and class words say what is live.
 pub record Ended {V : Type 0} (keeping : V → Keeping) (key : Opened) (v : View) (words : List ℕ) (homes : Homes V) : Type 0 where
+  pub opened : AreInOneHand (after_all key.profile opening key.history) key.pairs
   pub later : List Entry
   pub counts : slice_index words 0 ≡ length (all_of key later)
   pub lawful : AreLawful key.profile opening (all_of key later)
-  pub below : All (λ e. e.caller < v.given) later
+  pub below : All (λ e. e.caller < key.profile.callers) later
+  pub handed : AreHanded key.pairs later
   pub mine : IsPartOf key later (part_of v)
   pub others : All (IsPartOf key later) v.joined
+  pub whose : All (λ x. All (λ h. h.caller ≡ x.caller) x.pairs) v.joined
   pub in_one_hand : AreInOneHand (state_after key later) v.pairs
   pub home : (k : ℕ) → k < keeper_count key.profile → AtHome keeping key (state_after key later) homes k
   pub lights : (b j : ℕ) → b < key.profile.nano → j < 1024 → light_word key.profile words b j ≡ one_for (is_slot_live key.profile (state_after key later) b j)

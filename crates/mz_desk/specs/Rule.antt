@@ -24,6 +24,7 @@ use Rattle.mz_book.specs.Pairs.{hand_among, owners}
 use Rattle.mz_book.specs.Lights.{slot_size, page_of_block, has_slot, is_slot_live, has_light, light_at}
 use Rattle.mz_book.specs.Account.{is_live}
 use Rattle.mz_book.specs.Rule.{AreInOneHand}
+use Rattle.mz_book.specs.Handed.{AreHanded}
 use Rattle.mz_desk.specs.declared.view.Since.{Since}
 use Rattle.mz_desk.specs.declared.view.TakenIn.{TakenIn}
 use Rattle.mz_desk.specs.declared.view.View.{View}
@@ -111,12 +112,13 @@ pub record IsSpent (views : List View) (c : ℕ) : Type 0 where
   pub at : get_elem? views c ≡ m.some view
   pub spent : view.live ≡ false
 
--- A seat that was taken in: the history is what it had seen and some rest, its record is all that its caller has in it, and its hand
--- is what that makes of its caller's hand at the opening.
+-- A seat that was taken in: the history is what it had seen and some rest, its record is all that its caller has in it, its pairs
+-- are its caller's, and its hand is what that makes of its caller's hand at the opening.
 pub record IsTaken (key : Opened) (views : List View) (later : List Entry) (x : TakenIn) : Type 0 where
   pub rest : List Entry
   pub seen : all_of key later ≡ x.seen ++ rest
   pub noted : x.noted ≡ own x.caller later
+  pub whose : All (λ h. h.caller ≡ x.caller) x.pairs
   pub hand : hand_among x.caller x.pairs ≡ hand_through (hand_among x.caller key.pairs) x.noted
   pub spent : IsSpent views x.caller
 
@@ -127,13 +129,14 @@ pub record OpeningKeeps (key : Opened) : Type 0 where
   pub in_one_hand : AreInOneHand (after_all key.profile opening key.history) key.pairs
 
 -- Part 1 and 2: the counter is the length of the history, which is lawful; no caller has more than 2^58 entries in it since the opening; each entry since then is
--- of a seat; and none opens or shuts a zone.
+-- of a seat, and ends, resizes and denies only what is in its caller's hand then; and none opens or shuts a zone.
 pub record HistoryKeeps (key : Opened) (counter seats : ℕ) (later : List Entry) : Type 0 where
   pub counts : counter ≡ length (all_of key later)
   pub lawful : AreLawful key.profile opening (all_of key later)
   pub bounded : (c : ℕ) → length (own c later) ≤ 2 ^ 58
   pub below : All (λ e. e.caller < seats) later
   pub no_zone : All (λ e. changes_zones e.event ≡ false) later
+  pub handed : AreHanded key.pairs later
 
 -- Part 3: where the lock word of k is 0 the keeper is at home; else a seat has it.
 pub record LocksKeep {V : Type 0} (keeping : V → Keeping) (key : Opened) (st : State) (words : List ℕ) (homes : Homes V) (views : List View) : Type 0 where

@@ -29,13 +29,15 @@ pub record Knows (v : View) : Type 0 where
   pub owned : v.joined ≡ [] → (b : Block) → owners v.pairs b ≤ one_for (is_live (after_all v.profile opening v.seen) b)
   pub sized : length v.settled ≡ v.profile.nano
 
--- take-lock: the lock was free and is the seat's, as the history then had some number of entries; or another seat has it
+-- take-lock: the lock was free and is the seat's, as the history then had some number of entries; or another seat has it, that of one of
+-- the callers
 pub record TriesLock {V : Type 0} (st : Step (Option V)) (me : Seated V) (n : ℕ) (me' : Seated V) : Type 0 where
   pub carried : me'.1 ≡ me.1
   pub from : ℕ
   pub got : n ≡ 0 → me'.0 ≡ locked me.0 (st.word - 1) from
   pub missed : n ≢ 0 → me'.0 ≡ clashed me.0 st.word 0 n
   pub other : n ≢ me.0.caller + 1
+  pub most : n ≤ me.0.profile.callers
 
 -- look: entries of others came, which touch no place held before; and the keeper that was taken stands for its place
 pub record Looks {V : Type 0} (keeping : V → Keeping) (st : Step (Option V)) (me : Seated V) (n : ℕ) (me' : Seated V) : Type 0 where

@@ -8,6 +8,7 @@ use Rattle.mz_events.specs.declared.event.Event.{Event}
 use Rattle.mz_book.specs.declared.light.Asked.{Asked}
 use Rattle.mz_book.specs.declared.pair.Pair.{Pair}
 use Rattle.mz_book.specs.Account.{Account, entry_at}
+use Rattle.mz_book.specs.Exchanges.{clash_of}
 use Rattle.mz_book.specs.Calls.{without}
 use Rattle.mz_book.specs.Keepers.{is_among}
 use Rattle.mz_book.specs.Lights.{light_at, add_light, drop_light}
@@ -15,7 +16,6 @@ use Rattle.mz_book.specs.Pairs.{pairs_after}
 use Rattle.mz_desk.specs.declared.view.SpaceName.{SpaceName}
 use Rattle.mz_desk.specs.declared.view.Load.{Load}
 use Rattle.mz_desk.specs.declared.view.Win.{Win}
-use Rattle.mz_desk.specs.declared.view.Clash.{Clash}
 use Rattle.mz_desk.specs.declared.view.View.{View}
 
 -- What a register is opened with: the profile, the space of the keepers, the history so far, and the pairs of all callers.
@@ -85,9 +85,6 @@ load_of i n = record { word = i; found = n }
 
 abbrev pub win_of : ℕ → ℕ → ℕ → Win
 win_of i x n = record { word = i; from = x; to = n }
-
-abbrev pub clash_of : ℕ → ℕ → ℕ → Clash
-clash_of i x n = record { word = i; expected = x; found = n }
 
 -- an exchange found another word
 abbrev pub clashed : View → ℕ → ℕ → ℕ → View

@@ -3,18 +3,12 @@
 use Rattle.std.specs.Prelude.{ℕ, ◌+◌, ◌*◌, List, slice_index}
 use Rattle.mz_base.specs.declared.profile.Profile.{Profile}
 use Rattle.mz_book.specs.Keepers.{keeper_count}
+pub use Rattle.mz_book.specs.Exchanges.{class_place, slot_place}
 
 -- word 0 counts the entries
 
 abbrev pub lock_place : ℕ → ℕ
 lock_place k = k + 1
-
-abbrev pub class_place : Profile → ℕ → ℕ
-class_place p b = keeper_count p + 1 + b
-
--- each block has 1,024 slots
-abbrev pub slot_place : Profile → ℕ → ℕ → ℕ
-slot_place p b j = keeper_count p + 1 + p.nano + (b * 1024 + j)
 
 abbrev pub word_count : Profile → ℕ
 word_count p = keeper_count p + 1 + p.nano + p.nano * 1024

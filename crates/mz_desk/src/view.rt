@@ -2,7 +2,7 @@
 //! alone.
 
 use mz_base::Profile;
-use mz_book::{Light, Pair};
+use mz_book::{Clash, Light, Pair};
 use mz_events::Entry;
 use std::collections::LinkedList;
 use std::snapshot::Snapshot;
@@ -42,13 +42,6 @@ pub struct Win {
     pub word: usize,
     pub from: u64,
     pub to: u64,
-}
-
-/// An exchange that found another word than it expected.
-pub struct Clash {
-    pub word: usize,
-    pub expected: u64,
-    pub found: u64,
 }
 
 /// A seat that was taken in: its number, what it had seen, its record and its pairs.

@@ -5,7 +5,7 @@ use Rattle.mz_events.specs.declared.entry.Entry.{Entry}
 use Rattle.mz_lines.specs.declared.answer.Answer.{Answer}
 use Rattle.mz_lines.specs.declared.command.Command.{Command}
 use Rattle.mz_lines.specs.declared.round_line.RoundLine.{RoundLine}
-use Rattle.mz_trace.specs.declared.run.Step.{Step}
+use Rattle.mz_trace.specs.declared.run.RunEntry.{RunEntry}
 use Rattle.mz_trace.specs.declared.run.CallRecord.{CallRecord}
 use Rattle.mz_trace.specs.declared.run.StartRecord.{StartRecord}
 use Rattle.mz_trace.specs.declared.run.RunRound.{RunRound}
@@ -15,7 +15,7 @@ use Rattle.mz_trace.specs.declared.tail.Listed.{Listed}
 use Rattle.mz_examples.specs.Examples.{profile_of}
 
 -- an entry as its section has it
-abbrev pub step_of : Entry → Step
+abbrev pub step_of : Entry → RunEntry
 step_of e = record { ticket = e.ticket; event = e.event }
 
 -- the record of a command with these entries

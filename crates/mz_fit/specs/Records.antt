@@ -5,7 +5,7 @@ use Rattle.mz_events.specs.declared.entry.Entry.{Entry}
 use Rattle.mz_lines.specs.declared.answer.Answer.{Answer}
 use Rattle.mz_lines.specs.declared.command.Command.{Command}
 use Rattle.mz_lines.specs.declared.round_line.RoundLine.{RoundLine}
-use Rattle.mz_trace.specs.declared.run.Step.{Step}
+use Rattle.mz_trace.specs.declared.run.RunEntry.{RunEntry}
 use Rattle.mz_trace.specs.declared.run.StartRecord.{StartRecord}
 use Rattle.mz_trace.specs.declared.run.CallRecord.{CallRecord}
 use Rattle.mz_trace.specs.declared.run.RunRound.{RunRound}
@@ -28,7 +28,7 @@ pub record LineRecord : Type 0 where
   pub answer : Answer
 
 -- the entry of a section's caller
-abbrev pub entry_by : ℕ → Step → Entry
+abbrev pub entry_by : ℕ → RunEntry → Entry
 entry_by c e = record { ticket = e.ticket; caller = c; event = e.event }
 
 -- the records at the start of a round

@@ -77,11 +77,10 @@ pub fn write_answer(out: &mut String, answer: &Answer) -> Result<(), AllocError>
         Answer::Nowhere => write_sentence(out, Form::Nowhere, &[]),
         Answer::Done => write_sentence(out, Form::Done, &[]),
         Answer::NotLive => write_sentence(out, Form::NotLive, &[]),
-        Answer::Block { a, s } => write_sentence(
-            out,
-            Form::Block,
-            &[Word::Number(a), Word::Number(s)],
-        ),
+        Answer::Block { a, s } => {
+            let words = [Word::Number(a), Word::Number(s)];
+            write_sentence(out, Form::Block, &words)
+        }
         Answer::Size { s } => write_sentence(out, Form::SizeIs, &[Word::Number(s)]),
         Answer::Bytes { shown } => write_sentence(out, Form::Bytes, &[Word::Bytes(shown)]),
         Answer::Got { n } => write_sentence(out, Form::Got, &[Word::Number(n)]),
@@ -137,20 +136,20 @@ fn telling_answer(form: Form, words: &[Word]) -> Option<Answer>
     ensures { result ≡ telling_answer form words.now }
 {
     match form {
-        Form::Block => match words {
-            [Word::Number(a), Word::Number(s)] => Some(Answer::Block { a: *a, s: *s }),
+        Form::Block => match *words {
+            [Word::Number(a), Word::Number(s)] => Some(Answer::Block { a, s }),
             _ => None,
         },
-        Form::Bytes => match words {
-            [Word::Bytes(shown)] => Some(Answer::Bytes { shown: *shown }),
+        Form::Bytes => match *words {
+            [Word::Bytes(shown)] => Some(Answer::Bytes { shown }),
             _ => None,
         },
-        Form::InZone => match words {
-            [Word::Zone(name)] => Some(Answer::Zone { name: *name }),
+        Form::InZone => match *words {
+            [Word::Zone(name)] => Some(Answer::Zone { name }),
             _ => None,
         },
-        _ => match words {
-            [Word::Number(n)] => counting_answer(form, *n),
+        _ => match *words {
+            [Word::Number(n)] => counting_answer(form, n),
             _ => None,
         },
     }

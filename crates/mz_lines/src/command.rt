@@ -160,13 +160,9 @@ fn write_named(out: &mut String, form: Form, name: BlockName, n: u64) -> Result<
 fn write_realloc(out: &mut String, names: &Names, n: u64) -> Result<(), AllocError>
     ensures { OnOk result (string_bytes out.new ≡ string_bytes out.old ++ join_with_byte 32 (command_words (commands.Realloc names.now n))) }
 {
-    let old = old_name(names);
-    let new = new_name(names);
-    write_sentence(
-        out,
-        Form::Realloc,
-        &[Word::Old(old), Word::New(new), Word::Number(n)],
-    )
+    let (old, new) = (old_name(names), new_name(names));
+    let words = [Word::Old(old), Word::New(new), Word::Number(n)];
+    write_sentence(out, Form::Realloc, &words)
 }
 
 fn write_zone_free(out: &mut String, zone: ZoneName, name: BlockName) -> Result<(), AllocError>
@@ -272,8 +268,8 @@ fn command_of(form: Form, words: &[Word]) -> Option<Command>
 fn malloc_of(words: &[Word]) -> Option<Command>
     ensures { result ≡ command_of form.Malloc words.now }
 {
-    match words {
-        [Word::Base(name), Word::Number(n)] => Some(Command::Malloc { name: *name, n: *n }),
+    match *words {
+        [Word::Base(name), Word::Number(n)] => Some(Command::Malloc { name, n }),
         _ => None,
     }
 }
@@ -281,12 +277,10 @@ fn malloc_of(words: &[Word]) -> Option<Command>
 fn calloc_of(words: &[Word]) -> Option<Command>
     ensures { result ≡ command_of form.Calloc words.now }
 {
-    match words {
-        [Word::Base(name), Word::Number(n), Word::Number(m)] => Some(Command::Calloc {
-            name: *name,
-            n: *n,
-            m: *m,
-        }),
+    match *words {
+        [Word::Base(name), Word::Number(n), Word::Number(m)] => {
+            Some(Command::Calloc { name, n, m })
+        }
         _ => None,
     }
 }
@@ -294,8 +288,8 @@ fn calloc_of(words: &[Word]) -> Option<Command>
 fn valloc_of(words: &[Word]) -> Option<Command>
     ensures { result ≡ command_of form.Valloc words.now }
 {
-    match words {
-        [Word::Base(name), Word::Number(n)] => Some(Command::Valloc { name: *name, n: *n }),
+    match *words {
+        [Word::Base(name), Word::Number(n)] => Some(Command::Valloc { name, n }),
         _ => None,
     }
 }
@@ -303,12 +297,10 @@ fn valloc_of(words: &[Word]) -> Option<Command>
 fn memalign_of(words: &[Word]) -> Option<Command>
     ensures { result ≡ command_of form.Memalign words.now }
 {
-    match words {
-        [Word::Base(name), Word::Number(al), Word::Number(n)] => Some(Command::Memalign {
-            name: *name,
-            al: *al,
-            n: *n,
-        }),
+    match *words {
+        [Word::Base(name), Word::Number(al), Word::Number(n)] => {
+            Some(Command::Memalign { name, al, n })
+        }
         _ => None,
     }
 }
@@ -316,8 +308,8 @@ fn memalign_of(words: &[Word]) -> Option<Command>
 fn realloc_of(words: &[Word]) -> Option<Command>
     ensures { result ≡ command_of form.Realloc words.now }
 {
-    match words {
-        [Word::Old(old), Word::New(new), Word::Number(n)] => names_of(*old, *new, *n),
+    match *words {
+        [Word::Old(old), Word::New(new), Word::Number(n)] => names_of(old, new, n),
         _ => None,
     }
 }
@@ -325,8 +317,8 @@ fn realloc_of(words: &[Word]) -> Option<Command>
 fn free_of(words: &[Word]) -> Option<Command>
     ensures { result ≡ command_of form.Free words.now }
 {
-    match words {
-        [Word::Name(name)] => Some(Command::Free { name: *name }),
+    match *words {
+        [Word::Name(name)] => Some(Command::Free { name }),
         _ => None,
     }
 }
@@ -334,11 +326,8 @@ fn free_of(words: &[Word]) -> Option<Command>
 fn free_at_of(words: &[Word]) -> Option<Command>
     ensures { result ≡ command_of form.FreeAt words.now }
 {
-    match words {
-        [Word::Name(name), Word::Number(off)] => Some(Command::FreeAt {
-            name: *name,
-            off: *off,
-        }),
+    match *words {
+        [Word::Name(name), Word::Number(off)] => Some(Command::FreeAt { name, off }),
         _ => None,
     }
 }
@@ -346,11 +335,8 @@ fn free_at_of(words: &[Word]) -> Option<Command>
 fn zone_free_of(words: &[Word]) -> Option<Command>
     ensures { result ≡ command_of form.ZoneFree words.now }
 {
-    match words {
-        [Word::Zone(zone), Word::Name(name)] => Some(Command::ZoneFree {
-            zone: *zone,
-            name: *name,
-        }),
+    match *words {
+        [Word::Zone(zone), Word::Name(name)] => Some(Command::ZoneFree { zone, name }),
         _ => None,
     }
 }
@@ -358,8 +344,8 @@ fn zone_free_of(words: &[Word]) -> Option<Command>
 fn sized_free_of(words: &[Word]) -> Option<Command>
     ensures { result ≡ command_of form.SizedFree words.now }
 {
-    match words {
-        [Word::Name(name), Word::Number(n)] => Some(Command::SizedFree { name: *name, n: *n }),
+    match *words {
+        [Word::Name(name), Word::Number(n)] => Some(Command::SizedFree { name, n }),
         _ => None,
     }
 }
@@ -367,8 +353,8 @@ fn sized_free_of(words: &[Word]) -> Option<Command>
 fn size_of(words: &[Word]) -> Option<Command>
     ensures { result ≡ command_of form.Size words.now }
 {
-    match words {
-        [Word::Name(name)] => Some(Command::Size { name: *name }),
+    match *words {
+        [Word::Name(name)] => Some(Command::Size { name }),
         _ => None,
     }
 }
@@ -376,11 +362,8 @@ fn size_of(words: &[Word]) -> Option<Command>
 fn fill_of(words: &[Word]) -> Option<Command>
     ensures { result ≡ command_of form.Fill words.now }
 {
-    match words {
-        [Word::Name(name), Word::Byte(byte)] => Some(Command::Fill {
-            name: *name,
-            byte: *byte,
-        }),
+    match *words {
+        [Word::Name(name), Word::Byte(byte)] => Some(Command::Fill { name, byte }),
         _ => None,
     }
 }
@@ -388,12 +371,10 @@ fn fill_of(words: &[Word]) -> Option<Command>
 fn show_of(words: &[Word]) -> Option<Command>
     ensures { result ≡ command_of form.Show words.now }
 {
-    match words {
-        [Word::Name(name), Word::Number(off), Word::ShowCount(count)] => Some(Command::Show {
-            name: *name,
-            off: *off,
-            count: *count,
-        }),
+    match *words {
+        [Word::Name(name), Word::Number(off), Word::ShowCount(count)] => {
+            Some(Command::Show { name, off, count })
+        }
         _ => None,
     }
 }
@@ -401,12 +382,10 @@ fn show_of(words: &[Word]) -> Option<Command>
 fn link_of(words: &[Word]) -> Option<Command>
     ensures { result ≡ command_of form.Link words.now }
 {
-    match words {
-        [Word::Name(name), Word::Number(off), Word::Name(target)] => Some(Command::Link {
-            name: *name,
-            off: *off,
-            target: *target,
-        }),
+    match *words {
+        [Word::Name(name), Word::Number(off), Word::Name(target)] => {
+            Some(Command::Link { name, off, target })
+        }
         _ => None,
     }
 }
@@ -414,12 +393,10 @@ fn link_of(words: &[Word]) -> Option<Command>
 fn give_of(words: &[Word]) -> Option<Command>
     ensures { result ≡ command_of form.Give words.now }
 {
-    match words {
-        [Word::Name(name), Word::Caller(to), Word::Given(given)] => Some(Command::Give {
-            name: *name,
-            to: *to,
-            given: *given,
-        }),
+    match *words {
+        [Word::Name(name), Word::Caller(to), Word::Given(given)] => {
+            Some(Command::Give { name, to, given })
+        }
         _ => None,
     }
 }
@@ -427,12 +404,10 @@ fn give_of(words: &[Word]) -> Option<Command>
 fn batch_of(words: &[Word]) -> Option<Command>
     ensures { result ≡ command_of form.Batch words.now }
 {
-    match words {
-        [Word::Base(name), Word::BatchCount(count), Word::Number(n)] => Some(Command::Batch {
-            name: *name,
-            count: *count,
-            n: *n,
-        }),
+    match *words {
+        [Word::Base(name), Word::BatchCount(count), Word::Number(n)] => {
+            Some(Command::Batch { name, count, n })
+        }
         _ => None,
     }
 }
@@ -440,8 +415,8 @@ fn batch_of(words: &[Word]) -> Option<Command>
 fn unbatch_of(words: &[Word]) -> Option<Command>
     ensures { result ≡ command_of form.Unbatch words.now }
 {
-    match words {
-        [Word::Base(name)] => Some(Command::Unbatch { name: *name }),
+    match *words {
+        [Word::Base(name)] => Some(Command::Unbatch { name }),
         _ => None,
     }
 }
@@ -449,8 +424,8 @@ fn unbatch_of(words: &[Word]) -> Option<Command>
 fn use_of(words: &[Word]) -> Option<Command>
     ensures { result ≡ command_of form.Use words.now }
 {
-    match words {
-        [Word::Zone(zone)] => Some(Command::Use { zone: *zone }),
+    match *words {
+        [Word::Zone(zone)] => Some(Command::Use { zone }),
         _ => None,
     }
 }

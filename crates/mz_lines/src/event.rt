@@ -33,12 +33,8 @@ pub fn write_event(out: &mut String, event: &Event) -> Result<(), AllocError>
             write_sentence(out, Form::Dry, &words)
         }
         Event::No { k, zone, a, s } => {
-            let words = [
-                Word::Place(k),
-                Word::Small(zone),
-                Word::Number(a),
-                Word::Number(s),
-            ];
+            let (k, zone) = (Word::Place(k), Word::Small(zone));
+            let words = [k, zone, Word::Number(a), Word::Number(s)];
             write_sentence(out, Form::No, &words)
         }
         Event::Open { zone } => write_sentence(out, Form::Open, &[Word::Small(zone)]),
@@ -107,12 +103,10 @@ fn event_of(form: Form, words: &[Word]) -> Option<Event>
 fn take_of(words: &[Word]) -> Option<Event>
     ensures { result ≡ event_of form.Take words.now }
 {
-    match words {
-        [Word::Place(k), Word::Number(first), Word::Number(pages)] => Some(Event::Take {
-            k: *k,
-            first: *first,
-            pages: *pages,
-        }),
+    match *words {
+        [Word::Place(k), Word::Number(first), Word::Number(pages)] => {
+            Some(Event::Take { k, first, pages })
+        }
         _ => None,
     }
 }
@@ -120,12 +114,10 @@ fn take_of(words: &[Word]) -> Option<Event>
 fn back_of(words: &[Word]) -> Option<Event>
     ensures { result ≡ event_of form.Back words.now }
 {
-    match words {
-        [Word::Place(k), Word::Number(first), Word::Number(pages)] => Some(Event::Back {
-            k: *k,
-            first: *first,
-            pages: *pages,
-        }),
+    match *words {
+        [Word::Place(k), Word::Number(first), Word::Number(pages)] => {
+            Some(Event::Back { k, first, pages })
+        }
         _ => None,
     }
 }
@@ -133,12 +125,10 @@ fn back_of(words: &[Word]) -> Option<Event>
 fn move_of(words: &[Word]) -> Option<Event>
     ensures { result ≡ event_of form.Move words.now }
 {
-    match words {
-        [Word::Number(first), Word::Place(from), Word::Place(to)] => Some(Event::Move {
-            first: *first,
-            from: *from,
-            to: *to,
-        }),
+    match *words {
+        [Word::Number(first), Word::Place(from), Word::Place(to)] => {
+            Some(Event::Move { first, from, to })
+        }
         _ => None,
     }
 }
@@ -146,18 +136,13 @@ fn move_of(words: &[Word]) -> Option<Event>
 fn new_of(words: &[Word]) -> Option<Event>
     ensures { result ≡ event_of form.New words.now }
 {
-    match words {
+    match *words {
         [
             Word::Place(k),
             Word::Number(a),
             Word::Number(s),
             Word::Number(al),
-        ] => Some(Event::New {
-            k: *k,
-            a: *a,
-            s: *s,
-            al: *al,
-        }),
+        ] => Some(Event::New { k, a, s, al }),
         _ => None,
     }
 }
@@ -165,12 +150,8 @@ fn new_of(words: &[Word]) -> Option<Event>
 fn end_of(words: &[Word]) -> Option<Event>
     ensures { result ≡ event_of form.End words.now }
 {
-    match words {
-        [Word::Place(k), Word::Number(a), Word::Number(s)] => Some(Event::End {
-            k: *k,
-            a: *a,
-            s: *s,
-        }),
+    match *words {
+        [Word::Place(k), Word::Number(a), Word::Number(s)] => Some(Event::End { k, a, s }),
         _ => None,
     }
 }
@@ -178,18 +159,13 @@ fn end_of(words: &[Word]) -> Option<Event>
 fn size_of(words: &[Word]) -> Option<Event>
     ensures { result ≡ event_of form.Resize words.now }
 {
-    match words {
+    match *words {
         [
             Word::Place(k),
             Word::Number(a),
             Word::Number(s),
             Word::Number(s2),
-        ] => Some(Event::Size {
-            k: *k,
-            a: *a,
-            s: *s,
-            s2: *s2,
-        }),
+        ] => Some(Event::Size { k, a, s, s2 }),
         _ => None,
     }
 }
@@ -197,12 +173,8 @@ fn size_of(words: &[Word]) -> Option<Event>
 fn full_of(words: &[Word]) -> Option<Event>
     ensures { result ≡ event_of form.Full words.now }
 {
-    match words {
-        [Word::Place(k), Word::Number(n), Word::Number(al)] => Some(Event::Full {
-            k: *k,
-            n: *n,
-            al: *al,
-        }),
+    match *words {
+        [Word::Place(k), Word::Number(n), Word::Number(al)] => Some(Event::Full { k, n, al }),
         _ => None,
     }
 }
@@ -210,12 +182,10 @@ fn full_of(words: &[Word]) -> Option<Event>
 fn dry_of(words: &[Word]) -> Option<Event>
     ensures { result ≡ event_of form.Dry words.now }
 {
-    match words {
-        [Word::Small(zone), Word::Number(pages), Word::Number(al)] => Some(Event::Dry {
-            zone: *zone,
-            pages: *pages,
-            al: *al,
-        }),
+    match *words {
+        [Word::Small(zone), Word::Number(pages), Word::Number(al)] => {
+            Some(Event::Dry { zone, pages, al })
+        }
         _ => None,
     }
 }
@@ -223,18 +193,13 @@ fn dry_of(words: &[Word]) -> Option<Event>
 fn no_of(words: &[Word]) -> Option<Event>
     ensures { result ≡ event_of form.No words.now }
 {
-    match words {
+    match *words {
         [
             Word::Place(k),
             Word::Small(zone),
             Word::Number(a),
             Word::Number(s),
-        ] => Some(Event::No {
-            k: *k,
-            zone: *zone,
-            a: *a,
-            s: *s,
-        }),
+        ] => Some(Event::No { k, zone, a, s }),
         _ => None,
     }
 }
@@ -242,8 +207,8 @@ fn no_of(words: &[Word]) -> Option<Event>
 fn open_of(words: &[Word]) -> Option<Event>
     ensures { result ≡ event_of form.Open words.now }
 {
-    match words {
-        [Word::Small(zone)] => Some(Event::Open { zone: *zone }),
+    match *words {
+        [Word::Small(zone)] => Some(Event::Open { zone }),
         _ => None,
     }
 }
@@ -251,8 +216,8 @@ fn open_of(words: &[Word]) -> Option<Event>
 fn shut_of(words: &[Word]) -> Option<Event>
     ensures { result ≡ event_of form.Shut words.now }
 {
-    match words {
-        [Word::Small(zone)] => Some(Event::Shut { zone: *zone }),
+    match *words {
+        [Word::Small(zone)] => Some(Event::Shut { zone }),
         _ => None,
     }
 }

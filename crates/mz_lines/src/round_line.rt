@@ -30,11 +30,10 @@ pub fn write_start(out: &mut String, line: &RoundLine) -> Result<(), AllocError>
     match *line {
         RoundLine::Zone { zone } => write_sentence(out, Form::Zone, &[Word::Zone(zone)]),
         RoundLine::Destroy { zone } => write_sentence(out, Form::Destroy, &[Word::Zone(zone)]),
-        RoundLine::Size { zone, addr } => write_sentence(
-            out,
-            Form::SizeAt,
-            &[Word::Zone(zone), Word::Number(addr)],
-        ),
+        RoundLine::Size { zone, addr } => {
+            let words = [Word::Zone(zone), Word::Number(addr)];
+            write_sentence(out, Form::SizeAt, &words)
+        }
         RoundLine::Where { addr } => write_sentence(out, Form::Where, &[Word::Number(addr)]),
     }
 }
@@ -44,23 +43,20 @@ pub fn start_of(form: Form, words: &[Word]) -> Option<RoundLine>
     ensures { result ≡ start_of form words.now }
 {
     match form {
-        Form::Zone => match words {
-            [Word::Zone(zone)] => Some(RoundLine::Zone { zone: *zone }),
+        Form::Zone => match *words {
+            [Word::Zone(zone)] => Some(RoundLine::Zone { zone }),
             _ => None,
         },
-        Form::Destroy => match words {
-            [Word::Zone(zone)] => Some(RoundLine::Destroy { zone: *zone }),
+        Form::Destroy => match *words {
+            [Word::Zone(zone)] => Some(RoundLine::Destroy { zone }),
             _ => None,
         },
-        Form::SizeAt => match words {
-            [Word::Zone(zone), Word::Number(addr)] => Some(RoundLine::Size {
-                zone: *zone,
-                addr: *addr,
-            }),
+        Form::SizeAt => match *words {
+            [Word::Zone(zone), Word::Number(addr)] => Some(RoundLine::Size { zone, addr }),
             _ => None,
         },
-        Form::Where => match words {
-            [Word::Number(addr)] => Some(RoundLine::Where { addr: *addr }),
+        Form::Where => match *words {
+            [Word::Number(addr)] => Some(RoundLine::Where { addr }),
             _ => None,
         },
         _ => None,

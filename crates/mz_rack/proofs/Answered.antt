@@ -1,28 +1,28 @@
 -- What serves a request is what the record of a request may be.
-use Rattle.std.proofs.Common.{◌≡◌, ℕ, zero, suc, ◌+◌, true, false, List, [], ◌∷◌, ◌++◌, length, map, take, refl, ap, sym, subst, ◌∙◌, arith, inl, inr, Some, None, ⊎_elim}
+use Rattle.std.proofs.Common.{◌≡◌, ℕ, zero, suc, ◌+◌, ◌≤◌, true, false, List, [], ◌∷◌, ◌++◌, length, length-append, map, take, refl, ap, sym, subst, ◌∙◌, arith, inl, inr, Some, None, ⊎_elim}
 use Rattle.std.specs.Prelude.{◌⊎◌, ◌&&◌, not, Result, Ok, Err, slice_get, if◌then◌else◌}
 use Rattle.std.specs.List.{All, Contains, list_all}
 use Rattle.std.proofs.lemmas.Bool.{false≢true, and_from}
-use Rattle.std.proofs.lemmas.List.Elements.{All-nil, All-cons, All-head, All-tail, All-append, All-weaker, All-contains, Contains-append_cases}
-use Rattle.std.proofs.lemmas.List.{map-append}
+use Rattle.std.proofs.lemmas.List.Elements.{All-nil, All-cons, All-head, All-tail, All-append, All-weaker, All-contains}
+use Rattle.std.proofs.lemmas.List.{map-append, length-map}
 use Rattle.std.proofs.lemmas.List.Folds.{list_all-map}
 use Rattle.mz_base.specs.declared.profile.Profile.{Profile}
 use Rattle.mz_base.specs.Sizes.{good_size_of}
 use Rattle.mz_base.specs.Space.{block_at}
 use Rattle.mz_ground.specs.Views.{SpanView}
 use Rattle.mz_events.specs.declared.place.Place.{Place}
-use Rattle.mz_events.specs.declared.place.Place.TheVariants.{Tiny, Small}
+use Rattle.mz_events.specs.declared.place.Place.TheVariants.{Tiny, Small, Large}
 use Rattle.mz_events.specs.declared.event.Event.{Event}
 use Rattle.mz_events.specs.declared.event.Event.TheVariants.{Take, Move, New, Full, Dry}
 use Rattle.mz_events.specs.declared.entry.Entry.{Entry}
-use Rattle.mz_events.specs.Places.{is_magazine, is_nano, depot_of, keeper_at, nano_page, same_spot, spot_of, spot_at}
+use Rattle.mz_events.specs.Places.{is_magazine, is_nano, depot_of, nano_page, same_spot, spot_of, spot_at}
 use Rattle.mz_events.specs.State.{State, opening, value_at}
 use Rattle.mz_events.specs.Effect.{touches}
 use Rattle.mz_events.specs.History.{AreLawful, after_entry, after_all}
 use Rattle.mz_record.specs.Moments.{state_before, duty_left, first_some}
-use Rattle.mz_record.specs.Served.{Request, Regional, events, AreFlushes, IsUndisturbed}
+use Rattle.mz_record.specs.Served.{Request, Regional, events, AreFlushes}
 use Rattle.mz_record.specs.Served.{IsServed as RecordServed, by_magazine as record_by_magazine, by_depot as record_by_depot, by_fresh_region as record_by_fresh_region, null_in_range as record_null_in_range}
-use Rattle.mz_book.specs.Account.{Account, state_of, known, HoldsNothing, holds_spot, entry_at}
+use Rattle.mz_book.specs.Account.{Account, state_of, known, HoldsNothing, entry_at}
 use Rattle.mz_book.specs.Calls.{is_at_nano}
 use Rattle.mz_book.specs.Growth.{Grows}
 use Rattle.mz_rack.specs.declared.lot.Null.{Null}
@@ -33,8 +33,8 @@ use Rattle.mz_rack.specs.Lots.{LotView}
 use Rattle.mz_rack.specs.BookLaws.{BookLaws}
 use Rattle.mz_rack.specs.Ways.{IsWayFor, request_of}
 use Rattle.mz_rack.specs.Serving.{keepers_for, block_got, is_large_full, TellsTickets, IsAnswer, Answers}
-use Rattle.mz_rack.specs.Stages.{at_large, at_pages, IsDried, IsFlush, AreFlushed, IsServed, by_magazine, by_depot, by_fresh_region, null_in_range, IsGot, Served}
-use Rattle.mz_rack.proofs.Undisturbed.{AreIndices, indices_behind, not_below, in_front, own_in, then_alone}
+use Rattle.mz_rack.specs.Stages.{at_pages, IsDried, IsFlush, AreFlushed, IsServed, by_magazine, by_depot, by_fresh_region, null_in_range, IsGot, Served}
+use Rattle.mz_rack.proofs.Undisturbed.{none_disturbs}
 
 abbrev pub lot_of : ℕ → Result SpanView Null → Result LotView Null
 lot_of z (Ok x) = Ok (record { zone = z; span = x })
@@ -81,18 +81,36 @@ pub record MomentLaws : Type 0 where
   pub after_joined : (p : Profile) (s : State) (xs ys : List Entry) → after_all p s (xs ++ ys) ≡ after_all p (after_all p s xs) ys
 
 -- the last dry left no duty
-last_calm : BookLaws → MomentLaws → (t : Account) (w : Way) (i : ℕ) → AreLawful t.profile opening t.seen → IsDried t w i → duty_left t.profile t.seen (entry_at i t.caller (Dry w.zone w.pages w.pages)) ≡ None
-last_calm L M t w i lawful d =
+pub last_calm : BookLaws → MomentLaws → (t : Account) (z w al i : ℕ) → AreLawful t.profile opening t.seen → IsDried t z w al i → duty_left t.profile t.seen (entry_at i t.caller (Dry z w al)) ≡ None
+last_calm L M t z w al i lawful d =
     let p = t.profile in
     let h = t.seen in
-    let e = entry_at i t.caller (Dry w.zone w.pages w.pages) in
+    let e = entry_at i t.caller (Dry z w al) in
     let at : i ≡ 0 + length d.before = L.index p opening h lawful (length d.before) e (ap (λ es. slice_get es (length d.before)) d.seen ∙ get_at d.before e []) in
     let front : take i h ≡ d.before = ap (λ k. take k h) (let j : i ≡ length d.before = omega arith in j) ∙ (ap (λ es. take (length d.before) es) d.seen ∙ take_front d.before (e ∷ [])) in
     let before : state_before p h i ≡ after_all p opening d.before = M.before p h i lawful ∙ ap (λ es. after_all p opening es) front in
     let last : after_entry p (after_all p opening d.before) e ≡ state_of t = sym (ap (λ es. after_all p opening es) d.seen ∙ (M.after_joined p opening d.before (e ∷ []) ∙ M.after_one p (after_all p opening d.before) e)) in
     let state : after_entry p (state_before p h i) e ≡ state_of t = ap (λ x. after_entry p x e) before ∙ last in
-    ap (λ x. first_some ((value_at x at_pages).duty ∷ (value_at x (at_large w)).duty ∷ [])) state
-    ∙ (ap (λ o. first_some (o ∷ (known t (at_large w)).duty ∷ [])) d.calm_p ∙ ap (λ o. first_some (None ∷ o ∷ [])) d.calm_l)
+    ap (λ x. first_some ((value_at x at_pages).duty ∷ (value_at x (spot_of (Large z))).duty ∷ [])) state
+    ∙ (ap (λ o. first_some (o ∷ (known t (spot_of (Large z))).duty ∷ [])) d.calm_p ∙ ap (λ o. first_some (None ∷ o ∷ [])) d.calm_l)
+
+-- no flush touches a page of nano, or is an event there
+flush_off : (p : Profile) (i z w al : ℕ) (e : Event) → IsFlush z w al e → touches p e (nano_page i) ≡ false
+flush_off p i z w al e (inl is) = ap (λ v. touches p v (nano_page i)) is
+flush_off p i z w al e (inr (f, n, is)) = ap (λ v. touches p v (nano_page i)) is
+
+pub flushes_off : (p : Profile) (i z w al : ℕ) (flushes : List Entry) → All (λ (e : Entry). IsFlush z w al e.event) flushes → All (λ (y : Entry). touches p y.event (nano_page i) ≡ false) flushes
+flushes_off p i z w al flushes each = All-weaker (λ (y : Entry). IsFlush z w al y.event) (λ y. touches p y.event (nano_page i) ≡ false) (λ y h. flush_off p i z w al y.event h) flushes each
+
+flush_outside : (z w al : ℕ) (e : Event) → IsFlush z w al e → not (is_at_nano e) ≡ true
+flush_outside z w al e (inl is) = ap (λ v. not (is_at_nano v)) is
+flush_outside z w al e (inr (f, m, is)) = ap (λ v. not (is_at_nano v)) is
+
+pub flushes_outside : (z w al : ℕ) (flushes back : List Entry) → All (λ (e : Entry). IsFlush z w al e.event) flushes → list_all (λ v. not (is_at_nano v)) (events back) ≡ true → list_all (λ v. not (is_at_nano v)) (events (flushes ++ back)) ≡ true
+flushes_outside z w al [] back each last = last
+flushes_outside z w al (e ∷ es) back each last =
+    and_from (not (is_at_nano e.event)) (list_all (λ v. not (is_at_nano v)) (events (es ++ back))) (flush_outside z w al e.event (All-head (λ (x : Entry). IsFlush z w al x.event) e es each))
+    (flushes_outside z w al es back (All-tail (λ (x : Entry). IsFlush z w al x.event) e es each) last)
 
 module _ (L : BookLaws) (M : MomentLaws) (s t : Account) (w : Way) (z n al : ℕ) (way : IsWayFor s.profile s.caller z n w) (lawful : AreLawful t.profile opening t.seen) where
   abbrev size : ℕ
@@ -107,7 +125,7 @@ module _ (L : BookLaws) (M : MomentLaws) (s t : Account) (w : Way) (z n al : ℕ
   block_is : (x : SpanView) (got : Result SpanView Null) → got ≡ Ok x → IsGot t w size got → block_got (lot_of z got) ≡ Some (block_at x.first size)
   block_is x got g is = subst (λ o. IsGot t w size o → block_got (lot_of z o) ≡ Some (block_at x.first size)) (sym g) (λ y. ap (λ l. Some (block_at x.first l)) y.1) is
 
-  flushes_are : t.profile ≡ s.profile → (flushes : List Entry) → AreFlushed t w flushes → AreFlushes s.profile t.seen z w.pages w.pages flushes
+  flushes_are : t.profile ≡ s.profile → (flushes : List Entry) → AreFlushed t w.zone w.pages w.pages flushes → AreFlushes s.profile t.seen z w.pages w.pages flushes
   flushes_are ep flushes fl = subst (λ y. AreFlushes s.profile t.seen y w.pages w.pages flushes) way.in_zone (subst (λ p. AreFlushes p t.seen w.zone w.pages w.pages flushes) ep fl.are)
 
   -- it is served in one of the ways of a record
@@ -124,8 +142,8 @@ module _ (L : BookLaws) (M : MomentLaws) (s t : Account) (w : Way) (z n al : ℕ
       refl
       (block_is x got g is)
   served_as ep ec es holds got (null_in_range m d i flushes e fl k g) is =
-      let dried : IsDried t w i = subst (λ o. IsGot t w size o) g is in
-      let last = last_calm L M t w i lawful dried in
+      let dried : IsDried t w.zone w.pages w.pages i = subst (λ o. IsGot t w size o) g is in
+      let last = last_calm L M t w.zone w.pages w.pages i lawful dried in
       let calm : duty_left s.profile t.seen (entry_at i s.caller (Dry w.zone w.pages w.pages)) ≡ None =
       subst (λ c. duty_left s.profile t.seen (entry_at i c (Dry w.zone w.pages w.pages)) ≡ None) ec (subst (λ p. duty_left p t.seen (entry_at i t.caller (Dry w.zone w.pages w.pages)) ≡ None) ep last) in
       record_null_in_range regional (entry_at m s.caller (Full w.magazine size al) ∷ entry_at d s.caller (Full w.depot size al) ∷ []) flushes (entry_at i s.caller (Dry w.zone w.pages w.pages)) (way.serves al) e
@@ -163,16 +181,12 @@ module _ (L : BookLaws) (M : MomentLaws) (s t : Account) (w : Way) (z n al : ℕ
   pick i [] h e (k, l, is) = absurd (omega arith)
   pick i (a ∷ es) h e there = ⊎_elim (λ (is : e ≡ a). ap (λ v. touches s.profile v (nano_page i)) is ∙ h.0) (λ (r : Contains es e). pick i es h.1 e r) (first_or a es e there)
 
-  off_flush : (i : ℕ) (e : Event) → IsFlush w e → IsOff i e
-  off_flush i e (inl is) = ap (λ v. touches s.profile v (nano_page i)) is ∙ off_dry i
-  off_flush i e (inr (f, n, is)) = ap (λ v. touches s.profile v (nano_page i)) is
-
-  off_both : (i : ℕ) (a b : Entry) (flushes back : List Entry) → IsOff i a.event → IsOff i b.event → AreFlushed t w flushes → All (λ (y : Entry). IsOff i y.event) back → All (λ (y : Entry). IsOff i y.event) (a ∷ b ∷ (flushes ++ back))
+  off_both : (i : ℕ) (a b : Entry) (flushes back : List Entry) → IsOff i a.event → IsOff i b.event → AreFlushed t w.zone w.pages w.pages flushes → All (λ (y : Entry). IsOff i y.event) back → All (λ (y : Entry). IsOff i y.event) (a ∷ b ∷ (flushes ++ back))
   off_both i a b flushes back first second fl last =
       let P : Entry → Type 0 = λ y. IsOff i y.event in
       All-cons (λ (y : Entry). IsOff i y.event) a (b ∷ (flushes ++ back)) first
       (All-cons (λ (y : Entry). IsOff i y.event) b (flushes ++ back) second
-      (All-append (λ (y : Entry). IsOff i y.event) flushes back (All-weaker (λ (y : Entry). IsFlush w y.event) (λ y. IsOff i y.event) (λ y h. off_flush i y.event h) flushes fl.each) last))
+      (All-append (λ (y : Entry). IsOff i y.event) flushes back (flushes_off s.profile i w.zone w.pages w.pages flushes fl.each) last))
 
   -- no event of it touches a page of nano
   off_nano : (es : List Entry) (holds : ℕ) (got : Result SpanView Null) → IsServed s.caller t w size al es holds got → (e : Entry) → Contains es e → (i : ℕ) → touches s.profile e.event (nano_page i) ≡ false
@@ -190,17 +204,19 @@ module _ (L : BookLaws) (M : MomentLaws) (s t : Account) (w : Way) (z n al : ℕ
       (entry_at j s.caller (Dry w.zone w.pages w.pages) ∷ []) (off_full i) (off_depot_full i) fl
       (All-cons (λ (y : Entry). IsOff i y.event) (entry_at j s.caller (Dry w.zone w.pages w.pages)) [] (off_dry i) (All-nil (λ (y : Entry). IsOff i y.event))))) there
 
-  -- and nobody else touches what it touched
-  undisturbed : (mine : List Entry) (m holds : ℕ) (got : Result SpanView Null) → Grows s mine m t → IsServed s.caller t w size al mine holds got → IsUndisturbed s.profile t.seen s.caller mine
-  undisturbed mine m holds got grows served e d x (nano_page i) he hd dry hx after before te tx = absurd (false≢true (sym (off_nano mine holds got served e he i) ∙ te))
-  undisturbed mine m holds got grows served e d x (keeper_at q) he hd dry hx after before te tx =
-      let more = grows.adds.more in
-      let all : AreIndices 0 (s.seen ++ more) = subst (λ h. AreIndices 0 h) grows.adds.seen (λ k y at. L.index t.profile opening t.seen lawful k y at) in
-      let tail = indices_behind 0 s.seen more all in
-      let here = own_in s.caller more e (subst (λ es. Contains es e) (sym grows.adds.own_is) he) in
-      let later : Contains more x = ⊎_elim (λ (f : Contains s.seen x). let a = in_front 0 s.seen more x all f in let b = not_below (0 + length s.seen) more e tail here.0 in absurd (omega arith)) (λ (f : Contains more x). f)
-      (Contains-append_cases s.seen more x (subst (λ h. Contains h x) grows.adds.seen hx)) in
-      then_alone s.profile s.caller (keeper_at q) (0 + length s.seen) (holds_spot s (keeper_at q)) more e x tail (grows.undisturbed q) here.0 here.1 te later after tx
+  at_most : (es : List Entry) (holds : ℕ) (got : Result SpanView Null) → IsServed s.caller t w size al es holds got → length es ≤ 36
+  at_most es holds got (by_magazine x e k g) = let count = sym (length-map es (λ (y : Entry). y.event)) ∙ ap length e in omega (arith, count)
+  at_most es holds got (by_depot x f e k g) = let count = sym (length-map es (λ (y : Entry). y.event)) ∙ ap length e in omega (arith, count)
+  at_most es holds got (by_fresh_region x f m d i j fs e fl k g) =
+      let few = fl.few in
+      let count = ap length e in
+      let both = length-append fs (entry_at i s.caller (Take w.magazine f w.pages) ∷ entry_at j s.caller (New w.magazine x.first size al) ∷ []) in
+      omega (arith, few, count, both)
+  at_most es holds got (null_in_range m d p fs e fl k g) =
+      let few = fl.few in
+      let count = ap length e in
+      let both = length-append fs (entry_at p s.caller (Dry w.zone w.pages w.pages) ∷ []) in
+      omega (arith, few, count, both)
 
   few : (mine : List Entry) (m : ℕ) (got : Result SpanView Null) → Grows s mine m t → IsServed s.caller t w size al mine m got → Grows s mine (keepers_for (events mine)) t
   few mine m got grows (by_magazine x e k g) = subst (λ j. Grows s mine j t) (k ∙ sym (ap (λ es. keepers_for es) e)) grows
@@ -231,16 +247,6 @@ module _ (L : BookLaws) (M : MomentLaws) (s t : Account) (w : Way) (z n al : ℕ
   is_answer mine holds (Err (null.Large c p)) es served is = absurd is
 
   -- no event of it is one at nano
-  flush_outside : (e : Event) → IsFlush w e → not (is_at_nano e) ≡ true
-  flush_outside e (inl is) = ap (λ v. not (is_at_nano v)) is
-  flush_outside e (inr (f, m, is)) = ap (λ v. not (is_at_nano v)) is
-
-  flushes_outside : (flushes back : List Entry) → All (λ e. IsFlush w e.event) flushes → list_all (λ v. not (is_at_nano v)) (events back) ≡ true → list_all (λ v. not (is_at_nano v)) (events (flushes ++ back)) ≡ true
-  flushes_outside [] back each last = last
-  flushes_outside (e ∷ es) back each last =
-      and_from (not (is_at_nano e.event)) (list_all (λ v. not (is_at_nano v)) (events (es ++ back))) (flush_outside e.event (All-head (λ (x : Entry). IsFlush w x.event) e es each))
-      (flushes_outside es back (All-tail (λ (x : Entry). IsFlush w x.event) e es each) last)
-
   outside : (es : List Entry) (holds : ℕ) (got : Result SpanView Null) → IsServed s.caller t w size al es holds got → list_all (λ v. not (is_at_nano v)) (events es) ≡ true
   outside es holds got served = each served
     where
@@ -251,8 +257,8 @@ module _ (L : BookLaws) (M : MomentLaws) (s t : Account) (w : Way) (z n al : ℕ
       each (by_magazine x e k g) = ap (list_all (λ v. not (is_at_nano v))) e ∙ made
       each (by_depot x f e k g) = ap (list_all (λ v. not (is_at_nano v))) e ∙ made
       each (by_fresh_region x f m d i j flushes e fl k g) =
-          ap (λ vs. list_all (λ v. not (is_at_nano v)) (events vs)) e ∙ flushes_outside flushes (entry_at i s.caller (Take w.magazine f w.pages) ∷ entry_at j s.caller (New w.magazine x.first size al) ∷ []) fl.each made
-      each (null_in_range m d p flushes e fl k g) = ap (λ vs. list_all (λ v. not (is_at_nano v)) (events vs)) e ∙ flushes_outside flushes (entry_at p s.caller (Dry w.zone w.pages w.pages) ∷ []) fl.each refl
+          ap (λ vs. list_all (λ v. not (is_at_nano v)) (events vs)) e ∙ flushes_outside w.zone w.pages w.pages flushes (entry_at i s.caller (Take w.magazine f w.pages) ∷ entry_at j s.caller (New w.magazine x.first size al) ∷ []) fl.each made
+      each (null_in_range m d p flushes e fl k g) = ap (λ vs. list_all (λ v. not (is_at_nano v)) (events vs)) e ∙ flushes_outside w.zone w.pages w.pages flushes (entry_at p s.caller (Dry w.zone w.pages w.pages) ∷ []) fl.each refl
 
   pub answers : HoldsNothing s → (got : Result SpanView Null) → Served [] 0 s w size al got t → Answers s z n al (lot_of z got) t
   answers nothing got b =
@@ -261,11 +267,12 @@ module _ (L : BookLaws) (M : MomentLaws) (s t : Account) (w : Way) (z n al : ℕ
       let served : IsServed s.caller t w size al b.mine b.holds got = subst (λ j. IsServed s.caller t w size al b.mine j got) zero_more b.served in
       record {
         mine = b.mine;
+        few = at_most b.mine b.holds got served;
         grows = few b.mine b.holds got b.grows served;
         nothing_held = record { keepers = b.nothing_held; lights = same.lights ∙ nothing.lights };
         serves = record {
           served = served_as same.profile same.caller b.mine b.holds got served b.is;
-          undisturbed = undisturbed b.mine b.holds b.holds got b.grows served;
+          undisturbed = none_disturbs L s t b.mine b.holds lawful b.grows (off_nano b.mine b.holds got served);
         };
         answer = is_answer b.mine b.holds got same.site served b.is;
         outside_nano = sym (list_all-map (λ v. not (is_at_nano v)) (λ (e : Entry). e.event) b.mine) ∙ outside b.mine b.holds got served;

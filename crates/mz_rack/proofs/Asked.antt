@@ -1,5 +1,5 @@
 -- What tests ask: after each request another one can be made.
-use Rattle.std.proofs.Common.{◌≡◌, ◌<◌, ◌≤◌, Bool, true, false, ℕ, List, [], ◌∷◌, ◌++◌, Option, Some, Ok, ap, sym, subst, ◌∙◌, refl, arith}
+use Rattle.std.proofs.Common.{◌≡◌, ◌≤◌, Bool, true, false, ℕ, List, [], ◌∷◌, ◌++◌, Option, Some, Ok, ap, sym, subst, ◌∙◌, refl, arith}
 use Rattle.std.specs.Option.{option_to_list}
 use Rattle.std.specs.Prelude.{Result, ◌||◌}
 use Rattle.mz_base.specs.declared.profile.Profile.{Profile}
@@ -7,7 +7,7 @@ use Rattle.mz_base.specs.Limits.{IsWithinLimits, IsFrom}
 use Rattle.mz_base.specs.Site.{Site}
 use Rattle.mz_events.specs.State.{is_open, opening}
 use Rattle.mz_events.specs.History.{after_all}
-use Rattle.mz_book.specs.Account.{Account, state_of, hand}
+use Rattle.mz_book.specs.Account.{Account, hand}
 use Rattle.mz_book.specs.Plain.{opening_account, Reserves, ActsAs}
 use Rattle.mz_rack.specs.declared.lot.Null.{Null}
 use Rattle.mz_rack.specs.Lots.{LotView}
@@ -95,16 +95,14 @@ has_last [] b = ap (λ x. x || false) (is_same_block b)
 has_last (x ∷ bs) b = behind (same_block b x) _ (has_last bs b)
 
 -- a block that was served may be freed by the same caller
-pub freeable : (s t u : Account) (p : Profile) (z m n al k : ℕ) (l : LotView) → HandLaws → CanServe s p z m → z < p.zones → Answers s z n al (Ok l) t → Reserves t k u → IsFreeable u l
-freeable s t u p z m n al k l H can zone answers more =
+pub freeable : (s t u : Account) (z n al k : ℕ) (l : LotView) → HandLaws → Answers s z n al (Ok l) t → Reserves t k u → IsFreeable u l
+freeable s t u z n al k l H answers more =
     let adds = answers.grows.adds in
     let b = block_of l in
     let hand_is : hand t ≡ hand s ++ b ∷ [] =
     ap (λ c. hand_among c t.pairs) adds.same.caller ∙ (ap (λ ps. hand_among s.caller ps) adds.pairs ∙ (H.through s.caller s.pairs answers.mine ∙ H.served s.profile t.seen (request_of s.caller z n al) answers.mine (Some b) (hand s) answers.serves.served)) in
     subst (λ y. IsFreeable y l) (sym more.after) (record {
       in_hand = ap (λ h. has_block h b) hand_is ∙ has_last (hand s) b;
-      zone = subst (λ y. y < t.profile.zones) (sym answers.answer.0) (subst (λ (q : Profile). z < q.zones) (sym (adds.same.profile ∙ can.profile)) zone);
-      zone_open = ap (λ y. is_open (state_of t) y) answers.answer.0 ∙ (adds.zones z ∙ can.zone_open);
       space = answers.answer.1 ∙ sym adds.same.site;
     })
 

@@ -1,31 +1,36 @@
 -- A block ends in its place, or is denied there; and which duty an entry leaves in a history that goes on.
-use Rattle.std.proofs.Common.{◌≡◌, ℕ, zero, suc, ◌+◌, ◌<◌, ◌≤◌, ◌==◌, true, false, not, List, [], ◌∷◌, ◌++◌, length, map, take, refl, ap, sym, subst, ◌∙◌, arith, inl, inr, ◌⊎◌, ⊎_elim, None}
+use Rattle.std.proofs.Common.{◌≡◌, ℕ, zero, suc, ◌+◌, ◌<◌, ◌≤◌, ◌==◌, true, false, not, List, [], ◌∷◌, ◌++◌, length, map, take, refl, ap, sym, subst, ◌∙◌, arith, inl, inr, ◌⊎◌, ⊎_elim, Option, None, Some}
 use Rattle.std.specs.Prelude.{◌≢◌, ◌&&◌, slice_get}
 use Rattle.std.specs.List.{All, Contains}
 use Rattle.std.proofs.lemmas.Bool.{false≢true, and_parts, cases_Bool, or_left}
 use Rattle.std.proofs.lemmas.List.{append_assoc}
 use Rattle.std.proofs.lemmas.List.Elements.{Contains-append_cases}
 use Rattle.mz_base.specs.declared.profile.Profile.{Profile}
+use Rattle.mz_base.specs.Site.{Site}
 use Rattle.mz_base.specs.Space.{Block}
 use Rattle.mz_base.specs.Lists.{has_block}
+use Rattle.mz_ground.specs.Views.{SpanView}
 use Rattle.mz_events.specs.declared.place.Place.{Place}
 use Rattle.mz_events.specs.declared.place.Place.TheVariants.{Pages, Tiny, TinyDepot, Small, SmallDepot, Large, Nano}
 use Rattle.mz_events.specs.declared.event.Event.{Event}
 use Rattle.mz_events.specs.declared.event.Event.TheVariants.{Take, Back, Move, New, End, Size, Full, Dry, No, Open, Shut}
 use Rattle.mz_events.specs.declared.entry.Entry.{Entry}
-use Rattle.mz_events.specs.Places.{is_nano, zone_of, keeper_at, same_place, same_spot, spot_at, spot_of, place_of}
-use Rattle.mz_events.specs.State.{Value, opening, value_at, is_open}
+use Rattle.mz_events.specs.Places.{is_nano, is_pages, is_large, zone_of, keeper_at, same_place, same_spot, spot_at, spot_of, place_of}
+use Rattle.mz_events.specs.State.{Kept, Value, opening, value_at, is_open}
 use Rattle.mz_events.specs.Changes.{without_block}
 use Rattle.mz_events.specs.Duties.{is_that, duty_of_end}
 use Rattle.mz_events.specs.Effect.{touched, touches}
 use Rattle.mz_events.specs.History.{AreLawful, after_entry, after_all}
 use Rattle.mz_events.specs.Leaving.{left_by}
+use Rattle.mz_events.specs.Standing.{Keeping, Stands}
 use Rattle.mz_record.specs.Moments.{state_before, duty_left, first_some}
 use Rattle.mz_book.specs.Keepers.{keeper_of, is_among}
 use Rattle.mz_book.specs.Account.{Account, state_of, known, holds_spot, entry_at}
 use Rattle.mz_book.specs.Calls.{CanNote, Notes, Releases, without}
-use Rattle.mz_book.specs.Growth.{Grows, is_undisturbed}
+use Rattle.mz_book.specs.Growth.{Grows, IsSame, is_undisturbed}
 use Rattle.mz_rack.specs.BookLaws.{BookLaws}
+use Rattle.mz_rack.specs.Ending.{has_blocks}
+use Rattle.mz_rack.specs.Flushing.{PushedOut}
 use Rattle.mz_rack.specs.FreeStages.{LivesIn, IsLast, HasEnded, IsDenied}
 use Rattle.mz_rack.proofs.Steps.{same_number, same_spot_refl, one_spot, held_at, learn_touched, can_note}
 use Rattle.mz_rack.proofs.Answered.{MomentLaws, get_at, take_front}
@@ -35,13 +40,39 @@ use Rattle.mz_rack.proofs.Undisturbed.{AreIndices, in_front, begun_alone, among_
 pub is_last : (s : Account) (e : Event) (i : ℕ) (t : Account) → Notes s e i t → IsLast t (entry_at i s.caller e)
 is_last s e i t h = record { before = s.seen ++ h.others; seen = ap (λ (u : Account). u.seen) h.after }
 
+-- a place in which blocks live has a keeper and isn't the free pages, and its blocks stand at one spot
+pub record IsPlain (q : Place) : Type 0 where
+  pub not_nano : is_nano q ≡ false
+  pub not_pages : is_pages q ≡ false
+  pub one_spot : (a : ℕ) → spot_at q a ≡ spot_of q
+
+pub is_plain : (q : Place) → has_blocks q ≡ true → IsPlain q
+is_plain Pages h = absurd (false≢true h)
+is_plain (Tiny z m) h = record { not_nano = refl; not_pages = refl; one_spot = λ _. refl }
+is_plain (TinyDepot z) h = record { not_nano = refl; not_pages = refl; one_spot = λ _. refl }
+is_plain (Small z m) h = record { not_nano = refl; not_pages = refl; one_spot = λ _. refl }
+is_plain (SmallDepot z) h = record { not_nano = refl; not_pages = refl; one_spot = λ _. refl }
+is_plain (Large z) h = record { not_nano = refl; not_pages = refl; one_spot = λ _. refl }
+is_plain Nano h = absurd (false≢true h)
+
+-- only large pushes a run out
+pub nothing_out : (x : Site) (q : Place) (k : Kept) (is : Kept → Type 0) (got : Option SpanView) → is_large q ≡ false → PushedOut x q k is got → is k
+nothing_out x q k is None h y = y.1
+nothing_out x q k is (Some s) h y = absurd (false≢true (sym h ∙ y.0))
+
+-- what came out, as it is known later
+pub pushed_then : (s t : Account) (q : Place) (k l : Kept) (v : Keeping) (got : Option SpanView) → IsSame s t → l ≡ k → PushedOut s.site q k (Stands v s.site s.profile q) got → PushedOut t.site q l (Stands v t.site t.profile q) got
+pushed_then s t q k l v got same e h =
+    subst (λ (p : Profile). PushedOut t.site q l (Stands v t.site p q) got) (sym same.profile)
+    (subst (λ (x : Site). PushedOut x q l (Stands v x s.profile q) got) (sym same.site) (subst (λ (y : Kept). PushedOut s.site q y (Stands v s.site s.profile q) got) (sym e) h))
+
 -- THE PLACE where a block lives
 module _ (L : BookLaws) (s : Account) (q : Place) (b : Block) (l : LivesIn s q b) where
   spot_is : (a : ℕ) → spot_at q a ≡ spot_of q
-  spot_is a = (L.regions q l.regions).one_spot a
+  spot_is a = (is_plain q l.blocks).one_spot a
 
   pub plain : is_nano q ≡ false
-  plain = (L.regions q l.regions).not_nano
+  plain = (is_plain q l.blocks).not_nano
 
   here : holds_spot s (spot_of q) ≡ true
   here = L.held s.profile s.held q plain ∙ (ap (λ x. is_among x (keeper_of s.profile q)) l.held ∙ rw (same_number (keeper_of s.profile q)) refl)
@@ -53,7 +84,7 @@ module _ (L : BookLaws) (s : Account) (q : Place) (b : Block) (l : LivesIn s q b
       (λ j y. held_at s j (spot_of q) (one_spot L j (spot_at q b.first) y ∙ spot_is b.first) here)
       (((L.fits s.profile (state_of s) s.caller).ends q b.first b.size).1 (record {
         standing = record { caller = c; exists = l.exists; zone_open = l.zone_open };
-        kind = (L.regions q l.regions).not_pages;
+        kind = (is_plain q l.blocks).not_pages;
         calm = subst (λ j. (known s j).duty ≡ None) at l.calm;
         live = subst (λ j. has_block (known s j).kept.live b ≡ true) at l.live;
       }))
@@ -65,7 +96,7 @@ module _ (L : BookLaws) (s : Account) (q : Place) (b : Block) (l : LivesIn s q b
       (λ j y. held_at s j (spot_of q) (one_spot L j (spot_at q b.first) y ∙ spot_is b.first) here)
       (((L.fits s.profile (state_of s) s.caller).deny q z b.first b.size).1 (record {
         standing = record { caller = c; exists = l.exists; zone_open = l.zone_open };
-        kind = (L.regions q l.regions).not_pages;
+        kind = (is_plain q l.blocks).not_pages;
         zone = zone;
         zone_open = opened;
         calm = subst (λ j. (known s j).duty ≡ None) at l.calm;
@@ -88,6 +119,9 @@ module _ (L : BookLaws) (s : Account) (q : Place) (b : Block) (l : LivesIn s q b
     held = ap (λ (u : Account). u.held) h.after;
     owes = ap (λ (v : Value). v.duty) (left i t h) ∙ ap (λ (v : Value). duty_of_end q v.kept) (sym (left i t h));
   }
+
+  pub kept_then : (i : ℕ) (t : Account) → Notes s (End q b.first b.size) i t → (known t (spot_of q)).kept ≡ without_block q b (known s (spot_of q)).kept
+  kept_then i t h = ap (λ (v : Value). v.kept) (left i t h)
 
   pub is_denied : (z i k : ℕ) (t u : Account) → k ≡ keeper_of s.profile q → CanNote s (No q z b.first b.size) → Notes s (No q z b.first b.size) i t → Releases t k u → IsDenied s z b i u
   is_denied z i k t u number can h r = record {

@@ -359,6 +359,7 @@ module _ (L : BookLaws) (w : Way) where
           record {
             mine = entry_at i s.caller (Back w.depot f w.pages) ∷ [];
             holds = 1;
+            few = omega arith;
             grows = subst (λ c. Grows s (entry_at i c (Back w.depot f w.pages) ∷ []) 1 y) c1 grown;
             held = ap (λ (a : Account). a.held) go;
             stays = λ held. ap (λ (a : Account). known a (at_magazine w)) go
@@ -378,6 +379,7 @@ pub settles_nothing : (L : BookLaws) (s y : Account) (w : Way) → (known s (at_
 settles_nothing L s y w calm go = record {
   mine = [];
   holds = 0;
+  few = omega arith;
   grows = rest_grows L s [] 0 s (without w.d s.held) y (L.nothing s).grows go;
   held = ap (λ (a : Account). a.held) go;
   stays = λ _. ap (λ (a : Account). known a (at_magazine w)) go;

@@ -70,14 +70,14 @@ tiny_whole n s = eqb-true (n % 16) 0 (and_parts (n % 16 == 0) (nat_le 16 n) (and
 small_whole : (n : ℕ) → ((n % 512 == 0) && nat_le 1024 n && nat_le n 32768) ≡ true → n % 512 ≡ 0
 small_whole n s = eqb-true (n % 512) 0 (and_parts (n % 512 == 0) (nat_le 1024 n) (and_parts ((n % 512 == 0) && nat_le 1024 n) (nat_le n 32768) s).0).0
 
-whole_size : (q : Place) (n : ℕ) → (is_magazine q || is_depot q) ≡ true → is_size_of q n ≡ true → n % quantum_of q ≡ 0
+pub whole_size : (q : Place) (n : ℕ) → (is_magazine q || is_depot q) ≡ true → is_size_of q n ≡ true → n % quantum_of q ≡ 0
 whole_size (Tiny z m) n h s = tiny_whole n s
 whole_size (TinyDepot z) n h s = tiny_whole n s
 whole_size (Small z m) n h s = small_whole n s
 whole_size (SmallDepot z) n h s = small_whole n s
 whole_size _ n h s = absurd (false≢true h)
 
-quanta_of : (Q : ℕ) (q : Place) (n : ℕ) → Q ≡ quantum_of q → (is_magazine q || is_depot q) ≡ true → is_size_of q n ≡ true → Q * (n / Q) ≡ n
+pub quanta_of : (Q : ℕ) (q : Place) (n : ℕ) → Q ≡ quantum_of q → (is_magazine q || is_depot q) ≡ true → is_size_of q n ≡ true → Q * (n / Q) ≡ n
 quanta_of Q q n same h s =
     let whole : n % Q ≡ 0 = ap (λ x. n % x) same ∙ whole_size q n h s in
     mul_comm Q (n / Q) ∙ omega (arith, div-add-mod' n Q, whole)
@@ -93,13 +93,13 @@ pub whole_pages : (Q N : ℕ) → IsShape Q N → IsWholePages Q N
 whole_pages Q N h = let some = h.some in (h.whole, omega arith)
 
 -- STANDING: what is kept changes, and all else stays
-kept_on : (v : RegionsKept) (x : Site) (p : Profile) (q : Place) (k : Kept) → StandsForRegions v x p q v.kept → StandsForRegions (record v { kept = k }) x p q k
+pub kept_on : (v : RegionsKept) (x : Site) (p : Profile) (q : Place) (k : Kept) → StandsForRegions v x p q v.kept → StandsForRegions (record v { kept = k }) x p q k
 kept_on v x p q k s = record { kind = s.kind; quantum = s.quantum; length = s.length; space = s.space; room = s.room; keeps = refl }
 
-by_itself : (v : RegionsKept) (x : Site) (p : Profile) (q : Place) (k : Kept) → StandsForRegions v x p q k → StandsForRegions v x p q v.kept
+pub by_itself : (v : RegionsKept) (x : Site) (p : Profile) (q : Place) (k : Kept) → StandsForRegions v x p q k → StandsForRegions v x p q v.kept
 by_itself v x p q k s = subst (λ j. StandsForRegions v x p q j) (sym s.keeps) s
 
-quantum_is : (Q N : ℕ) (x : Site) (p : Profile) (q : Place) (k : Kept) (v : RegionsKept) → IsShelf Q N v → StandsForRegions v x p q k → Q ≡ quantum_of q
+pub quantum_is : (Q N : ℕ) (x : Site) (p : Profile) (q : Place) (k : Kept) (v : RegionsKept) → IsShelf Q N v → StandsForRegions v x p q k → Q ≡ quantum_of q
 quantum_is Q N x p q k v shelf s = sym shelf.quantum ∙ s.quantum
 
 -- BLOCKS: a magazine has a block more, or no room

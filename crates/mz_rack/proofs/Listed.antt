@@ -60,6 +60,12 @@ run_of_all p (t ∷ rs) r h y =
     let parts = and_parts (p t) (list_all p rs) h in
     or_elim (same_run r t) (has_run rs r) (λ z. ap p (same_run_is r t z) ∙ parts.0) (λ z. run_of_all p rs r parts.1 z) y
 
+pub block_of_all : (p : Block → Bool) (bs : List Block) (b : Block) → list_all p bs ≡ true → has_block bs b ≡ true → p b ≡ true
+block_of_all p [] b h y = absurd (false≢true y)
+block_of_all p (c ∷ bs) b h y =
+    let parts = and_parts (p c) (list_all p bs) h in
+    or_elim (same_block b c) (has_block bs b) (λ z. ap p (same_block_is b c z) ∙ parts.0) (λ z. block_of_all p bs b parts.1 z) y
+
 -- the region that begins at a page is one of them
 pub region_there : (rs : List Run) (f : ℕ) → list_any (λ r. r.first == f) rs ≡ true → has_run rs (region_at rs f) ≡ true
 region_there [] f h = absurd (false≢true h)

@@ -283,6 +283,7 @@ module _ (L : BookLaws) (w : Way) (f : ℕ) where
               ticket = i;
               rest = z.mine;
               holds = 1 + z.holds;
+              few = z.few;
               grows = subst (λ c. Grows s (entry_at i c (moving w f) ∷ z.mine) (1 + z.holds) y) c1 ended;
               nothing_held = ap (λ (a : Account). a.held) go;
               none_again = none_moved;

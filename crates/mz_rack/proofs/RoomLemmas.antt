@@ -124,14 +124,18 @@ multiple_same al x step whole =
 turned : (a b c : ℕ) → a * (b * c) ≡ 0 + b * (c * a)
 turned a b c = grind arith
 
+-- a page begins at a multiple of each alignment
+pub page_aligned : (f al : ℕ) → IsPowerOfTwo al → al ≤ 16384 → f * PAGE % al ≡ 0
+page_aligned f al power small =
+    let part = power_divides al 16384 power (14, refl) small in
+    let all : f * PAGE ≡ 0 + al * (part.0 * f) = ap (λ x. f * x) part.1 ∙ turned f al part.0 in
+    ap (λ x. x % al) all ∙ add-mul-mod_self_left 0 al (part.0 * f) ∙ zero-mod al
+
 -- a region without live blocks has room for whatever is no larger
 pub room_of_fresh : (r : Run) (n al : ℕ) → n ≤ r.pages * PAGE → IsPowerOfTwo al → al ≤ 16384 → has_room r [] n al ≡ true
 room_of_fresh r n al few power small =
     let step = power_some al power in
-    let part = power_divides al 16384 power (14, refl) small in
-    let all : r.first * PAGE ≡ 0 + al * (part.0 * r.first) = ap (λ x. r.first * x) part.1 ∙ turned r.first al part.0 in
-    let whole : r.first * PAGE % al ≡ 0 = ap (λ x. x % al) all ∙ add-mul-mod_self_left 0 al (part.0 * r.first) ∙ zero-mod al in
-    let same = multiple_same al (r.first * PAGE) step whole in
+    let same = multiple_same al (r.first * PAGE) step (page_aligned r.first al power small) in
     let low = le-leb (r.first * PAGE) (r.first * PAGE) (omega arith) in
     let high = le-leb (least_multiple al (r.first * PAGE) + n) (run_end r * PAGE) (omega arith) in
     or_left _ false (and_from _ true (and_from (nat_le (r.first * PAGE) (r.first * PAGE)) (nat_le (least_multiple al (r.first * PAGE) + n) (run_end r * PAGE)) low high) refl)

@@ -67,6 +67,10 @@ two_spots L j k l h =
 pub held_at : (s : Account) (j k : Spot) → j ≡ k → holds_spot s k ≡ true → holds_spot s j ≡ true
 held_at s j k e h = ap (λ x. holds_spot s x) e ∙ h
 
+-- what is held is held still
+pub held_still : (s t : Account) (j : Spot) → IsSame s t → t.held ≡ s.held → holds_spot s j ≡ true → holds_spot t j ≡ true
+held_still s t j same held h = ap (λ (p : Profile). is_held p t.held j) same.profile ∙ (ap (λ l. is_held s.profile l j) held ∙ h)
+
 -- a keeper's number and its place
 module _ (L : BookLaws) (t : Account) (q : Place) (k : ℕ) (is : k ≡ keeper_of t.profile q) (plain : is_nano q ≡ false) (there : exists_in t.profile q ≡ true) where
   pub its_place : place_at t.profile k ≡ q

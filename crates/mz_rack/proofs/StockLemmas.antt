@@ -1,6 +1,6 @@
 -- What a run of the free pages is, and what is left of them without it.
-use Rattle.std.proofs.Common.{◌≡◌, ◌⊎◌, ℕ, ◌+◌, ◌-◌, ◌/◌, ◌%◌, ◌<◌, ◌≤◌, ◌==◌, Bool, true, false, not, List, [], ◌∷◌, None, refl, ap, sym, subst, ◌∙◌, inl, inr, arith, get_or}
-use Rattle.std.specs.Prelude.{nat_lt, nat_le, ◌&&◌, ◌||◌, length, if◌then◌else◌}
+use Rattle.std.proofs.Common.{◌≡◌, ◌⊎◌, ℕ, ◌+◌, ◌-◌, ◌*◌, ◌/◌, ◌%◌, ◌<◌, ◌≤◌, ◌==◌, Bool, true, false, not, List, [], ◌∷◌, Some, None, refl, ap, sym, subst, ◌∙◌, inl, inr, arith, get_or}
+use Rattle.std.specs.Prelude.{nat_lt, nat_le, ◌&&◌, ◌||◌, length, Option, MatchOption, if◌then◌else◌}
 use Rattle.std.specs.List.{All, list_any, list_all}
 use Rattle.std.proofs.lemmas.List.Elements.{All-head, All-tail}
 use Rattle.std.proofs.Math.Nat.{mul-mod_left}
@@ -9,7 +9,7 @@ use Rattle.std.proofs.lemmas.List.FromFn.{length-map-range_with_len, get_or-map-
 use Rattle.mz_base.specs.declared.profile.Profile.{Profile}
 use Rattle.mz_base.specs.declared.range.TheConstants.{PAGE}
 use Rattle.mz_base.specs.Site.{Site}
-use Rattle.mz_base.specs.Space.{Run, run_at, run_end, runs_apart, same_run, least_multiple, units_for}
+use Rattle.mz_base.specs.Space.{Run, block_at, run_at, run_end, runs_apart, same_run, least_multiple, units_for}
 use Rattle.mz_base.specs.Lists.{add_run, drop_run, has_run}
 use Rattle.mz_base.specs.Room.{is_free, run_from, page_starts, has_free, is_lowest_free}
 use Rattle.mz_bits.specs.Runs.{with_run, HasRun}
@@ -21,13 +21,14 @@ use Rattle.mz_events.specs.declared.place.Place.{Place}
 use Rattle.mz_events.specs.declared.place.Place.TheVariants.{Pages, Tiny, TinyDepot, Small, SmallDepot}
 use Rattle.mz_events.specs.Places.{is_magazine, is_depot, is_length_of, is_tiny, is_small, quantum_of, nano_start}
 use Rattle.mz_events.specs.State.{Kept}
-use Rattle.mz_events.specs.Changes.{one_for, pages_without, pages_with}
+use Rattle.mz_events.specs.Changes.{one_for, pages_with}
 use Rattle.mz_events.specs.Separation.{InOrder, has_page}
 use Rattle.mz_events.specs.Standing.{PagesKept, Keeping, Stands, StandsForPages, free_pages}
 use Rattle.mz_rack.specs.declared.keeper.Kind.{Kind}
 use Rattle.mz_rack.specs.declared.keeper.Kind.TheVariants as kind
 use Rattle.mz_rack.specs.Kinds.{keeping_of}
-use Rattle.mz_rack.specs.Answering.{Cut}
+use Rattle.mz_large.specs.Large.{run_of_span}
+use Rattle.mz_rack.specs.Runs.{FoundRun, with_region_for}
 use Rattle.mz_rack.proofs.Steps.{or_elim}
 use Rattle.mz_rack.proofs.Listed.{same_run_is}
 use Rattle.mz_rack.proofs.RoomLemmas.{insert_nil, insert_here, insert_later, any_inserted}
@@ -107,20 +108,20 @@ all_of : (f : ℕ → Bool) (xs : List ℕ) → ((x : ℕ) → f x ≡ true) →
 all_of f [] h = refl
 all_of f (x ∷ xs) h = and_from (f x) (list_all f xs) (h x) (all_of f xs h)
 
-none_free : (p : Profile) (taken : List Run) (w : ℕ) → HasNoFree 0 (free_pages p taken) w w → has_free (nano_start p) taken w w ≡ false
-none_free p taken w none =
-    none_any (λ x. is_free (nano_start p) taken (run_from w w x)) (page_starts taken)
-    (λ x y. none (least_multiple w x) (mul-mod_left (units_for w x) w) (free_then p taken (least_multiple w x) w y))
+none_free : (p : Profile) (taken : List Run) (w al : ℕ) → HasNoFree 0 (free_pages p taken) w al → has_free (nano_start p) taken w al ≡ false
+none_free p taken w al none =
+    none_any (λ x. is_free (nano_start p) taken (run_from w al x)) (page_starts taken)
+    (λ x y. none (least_multiple al x) (mul-mod_left (units_for al x) al) (free_then p taken (least_multiple al x) w y))
 
-lowest_now : (p : Profile) (taken : List Run) (w f : ℕ) → 1 ≤ w → InOrder (λ r. r.first) run_end taken → IsLowestFree 0 (free_pages p taken) w w f → is_lowest_free (nano_start p) taken (run_at f w) w ≡ true
-lowest_now p taken w f some order low =
+lowest_now : (p : Profile) (taken : List Run) (w al f : ℕ) → 1 ≤ w → InOrder (λ r. r.first) run_end taken → IsLowestFree 0 (free_pages p taken) w al f → is_lowest_free (nano_start p) taken (run_at f w) al ≡ true
+lowest_now p taken w al f some order low =
     let top = nano_start p in
-    and_from ((f % w == 0) && is_free top taken (run_at f w)) (list_all (λ x. nat_le f (least_multiple w x) || not (is_free top taken (run_from w w x))) (page_starts taken))
-    (and_from (f % w == 0) (is_free top taken (run_at f w)) (eq-eqb (f % w) 0 low.aligned) (free_now p taken f w some order low.is_free))
-    (all_of (λ x. nat_le f (least_multiple w x) || not (is_free top taken (run_from w w x))) (page_starts taken)
-    (λ x. elim (cases_Bool (is_free top taken (run_from w w x))) [
-      | inl y ↦ or_left (nat_le f (least_multiple w x)) (not (is_free top taken (run_from w w x))) (le-leb f (least_multiple w x) (low.lowest (least_multiple w x) (mul-mod_left (units_for w x) w) (free_then p taken (least_multiple w x) w y)))
-      | inr n ↦ or_right (nat_le f (least_multiple w x)) (not (is_free top taken (run_from w w x))) (not_from_false (is_free top taken (run_from w w x)) n)
+    and_from ((f % al == 0) && is_free top taken (run_at f w)) (list_all (λ x. nat_le f (least_multiple al x) || not (is_free top taken (run_from w al x))) (page_starts taken))
+    (and_from (f % al == 0) (is_free top taken (run_at f w)) (eq-eqb (f % al) 0 low.aligned) (free_now p taken f w some order low.is_free))
+    (all_of (λ x. nat_le f (least_multiple al x) || not (is_free top taken (run_from w al x))) (page_starts taken)
+    (λ x. elim (cases_Bool (is_free top taken (run_from w al x))) [
+      | inl y ↦ or_left (nat_le f (least_multiple al x)) (not (is_free top taken (run_from w al x))) (le-leb f (least_multiple al x) (low.lowest (least_multiple al x) (mul-mod_left (units_for al x) al) (free_then p taken (least_multiple al x) w y)))
+      | inr n ↦ or_right (nat_le f (least_multiple al x)) (not (is_free top taken (run_from w al x))) (not_from_false (is_free top taken (run_from w al x)) n)
     ]))
 
 -- LEFT: the pages without the run
@@ -165,49 +166,47 @@ of_stock i v u n view is inside x p q k s = subst (λ a. StandsForPages a x p q 
 abbrev pub stock_of : PagesView → ℕ → ℕ → PagesKept
 stock_of a n m = record { space = a.space; free = a.free; tiny_blanks = n; small_blanks = m }
 
-pub cut_none : (x : Site) (p : Profile) (q : Place) (k : Kept) (w : ℕ) (b a : PagesView) (n m : ℕ) → b.first ≡ 0 → StandsForPages (stock_of b n m) x p Pages k → HasNoFree b.first b.free w w → a ≡ b
-    → Cut x p q k w (λ j. StandsForPages (stock_of a n m) x p Pages j) None
-cut_none x p q k w b a n m first s none same =
-    (none_free p k.taken w (subst (λ l. HasNoFree 0 l w w) s.free (subst (λ f. HasNoFree f b.free w w) first none)), subst (λ c. StandsForPages (stock_of c n m) x p Pages k) (sym same) s)
-
-lowest_in : (x : Site) (p : Profile) (k : Kept) (w f : ℕ) (b : PagesView) (n m : ℕ) → b.first ≡ 0 → StandsForPages (stock_of b n m) x p Pages k → IsLowestFree b.first b.free w w f → IsLowestFree 0 (free_pages p k.taken) w w f
-lowest_in x p k w f b n m first s low = subst (λ l. IsLowestFree 0 l w w f) s.free (subst (λ g. IsLowestFree g b.free w w f) first low)
-
--- the run that was taken was free
-pub was_free : (x : Site) (p : Profile) (k : Kept) (w : ℕ) (b a : PagesView) (n m : ℕ) (s : SpanView) → b.first ≡ 0 → StandsForPages (stock_of b n m) x p Pages k → 1 ≤ w → InOrder (λ r. r.first) run_end k.taken → Takes b a w w s
-    → is_free (nano_start p) k.taken (run_at (first_page s) w) ≡ true
-was_free x p k w b a n m s first st some order takes = free_now p k.taken (first_page s) w some order (lowest_in x p k w (first_page s) b n m first st takes.lowest).is_free
-
-pub record CutOut (x : Site) (p : Profile) (q : Place) (k : Kept) (w : ℕ) (u : PagesKept) (t : RegionView) : Type 0 where
-  pub space : t.space ≡ x
-  pub lowest : is_lowest_free (nano_start p) k.taken (run_at (t.first / PAGE) w) w ≡ true
-  pub left : StandsForPages u x p Pages (pages_without q (run_at (t.first / PAGE) w) k)
-
-pub cut_out : RunsAreRead → (x : Site) (p : Profile) (q : Place) (k : Kept) (w : ℕ) (b a : PagesView) (n m i j : ℕ) (s : SpanView) (t : RegionView) → b.first ≡ 0 → StandsForPages (stock_of b n m) x p Pages k → 1 ≤ w
-    → InOrder (λ r. r.first) run_end k.taken → Takes b a w w s → t.space ≡ s.space → t.first ≡ s.first → n ≡ i + one_for (is_tiny q) → m ≡ j + one_for (is_small q) → CutOut x p q k w (stock_of a i j) t
-cut_out law x p q k w b a n m i j s t first st some order takes of_s at tiny small =
+-- the lowest free run is out, or none is free
+pub found_run : RunsAreRead → (x : Site) (p : Profile) (k : Kept) (w al : ℕ) (b a : PagesView) (n m : ℕ) (got : Option SpanView) → b.first ≡ 0 → StandsForPages (stock_of b n m) x p Pages k → 1 ≤ w
+    → InOrder (λ r. r.first) run_end k.taken → MatchOption got (HasNoFree b.first b.free w al × (a ≡ b)) (Takes b a w al) → FoundRun x p k w al (λ j. StandsForPages (stock_of a n m) x p Pages j) got
+found_run law x p k w al b a n m None first st some order h =
+    (none_free p k.taken w al (subst (λ l. HasNoFree 0 l w al) st.free (subst (λ f. HasNoFree f b.free w al) first h.0)), subst (λ c. StandsForPages (stock_of c n m) x p Pages k) (sym h.1) st)
+found_run law x p k w al b a n m (Some s) first st some order takes =
     let f = first_page s in
-    let low = lowest_in x p k w f b n m first st takes.lowest in
+    let low : IsLowestFree 0 (free_pages p k.taken) w al f = subst (λ l. IsLowestFree 0 l w al f) st.free (subst (λ g. IsLowestFree g b.free w al f) first takes.lowest) in
     let count = count_free p k.taken in
     let below = low.is_free.below in
     let top : f + w ≤ nano_start p = omega (arith, below, count) in
-    let page : t.first / PAGE ≡ f = ap (λ y. y / PAGE) at in
     let from : f - b.first ≡ f = omega (arith, first) in
+    let begins = takes.run.begins in
+    let long = takes.run.long in
+    let count_is : length s.bytes / PAGE ≡ w = omega (arith, long) in
+    let is : run_of_span s ≡ run_at f w = ap (run_at f) count_is in
     let free : a.free ≡ free_pages p (add_run (run_at f w) k.taken) =
     ap (λ (y : PagesView). y.free) takes.left ∙ ap (λ y. with_run b.free y w false) from ∙ ap (λ l. with_run l f w false) st.free ∙ free_left law p k.taken f w top in
-    let was_tiny = st.tiny in
-    let was_small = st.small in
-    record {
-      space = of_s ∙ takes.run.within ∙ st.space;
-      lowest = subst (λ g. is_lowest_free (nano_start p) k.taken (run_at g w) w ≡ true) (sym page) (lowest_now p k.taken w f some order low);
-      left = subst (λ g. StandsForPages (stock_of a i j) x p Pages (pages_without q (run_at g w) k)) (sym page) (record {
+    let at_page : s.first / PAGE * PAGE ≡ s.first = sym begins in
+    let whole_pages : length s.bytes / PAGE * PAGE ≡ length s.bytes = ap (λ y. y * PAGE) count_is ∙ sym long in (
+      record {
+        space = takes.run.within ∙ st.space;
+        whole = ap (λ y. block_at y (length s.bytes / PAGE * PAGE)) at_page ∙ ap (block_at s.first) whole_pages;
+        pages = count_is;
+        lowest = ap (λ (r : Run). is_lowest_free (nano_start p) k.taken r al) is ∙ lowest_now p k.taken w al f some order low;
+      },
+      record {
         kind = st.kind;
         space = ap (λ (y : PagesView). y.space) takes.left ∙ st.space;
-        free = free;
-        tiny = omega (arith, was_tiny, tiny);
-        small = omega (arith, was_small, small);
-      });
-    }
+        free = free ∙ ap (λ (r : Run). free_pages p (add_run r k.taken)) (sym is);
+        tiny = st.tiny;
+        small = st.small;
+      },
+    )
+
+-- the metadata of a region is in use
+pub with_one_fewer : (x : Site) (p : Profile) (q : Place) (k : Kept) (b : PagesView) (n m i j : ℕ) → StandsForPages (stock_of b n m) x p Pages k → n ≡ i + one_for (is_tiny q) → m ≡ j + one_for (is_small q) → StandsForPages (stock_of b i j) x p Pages (with_region_for q k)
+with_one_fewer x p q k b n m i j st tiny small =
+    let was_tiny = st.tiny in
+    let was_small = st.small in
+    record { kind = st.kind; space = st.space; free = st.free; tiny = omega (arith, was_tiny, tiny); small = omega (arith, was_small, small) }
 
 -- PLACES: of the two lengths
 pub tiny_place : (q : Place) (w : ℕ) → is_magazine q ≡ true → is_length_of q w ≡ true → w ≡ 64 → (is_tiny q ≡ true) × (is_small q ≡ false) × (quantum_of q ≡ 16)

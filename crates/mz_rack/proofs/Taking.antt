@@ -1,8 +1,8 @@
 -- Large and the pages are held too.
-use Rattle.std.proofs.Common.{◌≡◌, ℕ, ◌*◌, ◌%◌, ◌<◌, ◌≤◌, ◌==◌, true, false, [], ◌∷◌, ◌++◌, refl, ap, sym, subst, ◌∙◌, arith, None}
+use Rattle.std.proofs.Common.{◌≡◌, ℕ, ◌*◌, ◌%◌, ◌<◌, ◌≤◌, ◌==◌, true, false, [], ◌∷◌, ◌++◌, length, refl, ap, sym, subst, ◌∙◌, arith, None}
 use Rattle.std.specs.Prelude.{◌&&◌, ◌||◌, nat_le, Ok, Err}
 use Rattle.std.specs.List.{list_all}
-use Rattle.std.proofs.lemmas.Bool.{false≢true, and_parts}
+use Rattle.std.proofs.lemmas.Bool.{false≢true, and_parts, eqb-true}
 use Rattle.std.proofs.lemmas.Bool.Decides.{nat_tests}
 use Rattle.mz_base.specs.declared.range.TheConstants.{PAGE}
 use Rattle.mz_base.specs.Space.{Run, run_at, runs_apart}
@@ -26,23 +26,22 @@ use Rattle.mz_rack.specs.declared.way.Way.{Way}
 use Rattle.mz_rack.specs.declared.region.AnyRegion.{AnyRegion}
 use Rattle.mz_rack.specs.Regions.{run_in, view_in}
 use Rattle.mz_rack.specs.BookLaws.{BookLaws}
+use Rattle.mz_large.specs.Large.{run_of_span}
+use Rattle.mz_rack.specs.Runs.{out_of_pages, IsFoundRun, MayFit, IsFitted, with_region_for}
 use Rattle.mz_rack.specs.Ways.{IsWay}
 use Rattle.mz_rack.specs.Asking.{IsTidy, MayAdopt}
 use Rattle.mz_rack.specs.Answering.{IsCut}
-use Rattle.mz_rack.specs.Stages.{at_magazine, at_depot, at_large, at_pages, Keeps, HasRoom, Ready, Tried, AreFull, Seeks, IsFresh, LetsGo, IsDried, AreFlushed, by_fresh_region, null_in_range, Served}
+use Rattle.mz_rack.specs.Stages.{at_magazine, at_depot, at_large, at_pages, Keeps, HasRoom, Ready, Tried, AreFull, Seeks, IsFresh, LetsGo, IsDried, by_fresh_region, null_in_range, Served}
 use Rattle.mz_rack.specs.Seeking.{CanSeek, Sought, dry_at}
 use Rattle.std.proofs.lemmas.List.{append-nil}
 use Rattle.mz_book.specs.Account.{StandsFor}
-use Rattle.mz_record.specs.Served.{AreFlushes}
-use Rattle.mz_events.specs.declared.entry.Entry.{Entry}
-use Rattle.std.proofs.Common.{List}
 use Rattle.std.specs.Prelude.{Result}
-use Rattle.mz_rack.proofs.Steps.{keeps_at, same_spot_refl, apart_back, or_elim, held_at, its_place, learn_touched, learn_other, can_note, can_same, standing, stands_then, zone_below, two_k, two_d, three_k, three_d, three_l, four_k, four_d, four_l, four_p, holds_all, rest_grows}
-use Rattle.mz_rack.proofs.Listed.{all_runs, run_of_all}
+use Rattle.mz_rack.proofs.Steps.{test_below, keeps_at, same_spot_refl, apart_back, or_elim, held_at, its_place, learn_touched, learn_other, can_note, can_same, standing, stands_then, zone_below, two_k, two_d, three_k, three_d, three_l, four_k, four_d, four_l, four_p, holds_all, rest_grows}
 use Rattle.mz_rack.proofs.RoomLemmas.{room_of_region, room_of_fresh}
 use Rattle.mz_rack.proofs.Trying.{power_some, size_some}
 use Rattle.mz_rack.proofs.Moving.{deed_at, found_full}
-use Rattle.mz_rack.proofs.Tidying.{tidy_of, live_apart}
+use Rattle.mz_rack.proofs.Seeking.{flushed_later}
+use Rattle.mz_rack.proofs.Tidying.{tidy_of, free_apart, live_apart}
 
 pub some_pages : (q : Place) (w : ℕ) → is_magazine q ≡ true → is_length_of q w ≡ true → 1 ≤ w
 some_pages (Tiny y m) w h l = grind (arith, nat_tests, l)
@@ -199,12 +198,7 @@ module _ (L : BookLaws) (w : Way) (n al : ℕ) (t : Account) (k : Seeks t w n al
 
     -- the run is apart from those of the magazine
     apart_of : AreLawful t.profile opening t.seen → list_all (λ x. runs_apart x (run_in r)) (known t (at_magazine w)).kept.runs ≡ true
-    apart_of lawful =
-        let all = (L.separate t.profile t.seen lawful).taken in
-        let free = (and_parts (((run_in r).first % w.pages == 0) && is_free (nano_start t.profile) (known t at_pages).kept.taken (run_in r)) _ cut.lowest).0 in
-        let apart = (and_parts (nat_le _ (nano_start t.profile)) (list_all (λ x. runs_apart x (run_in r)) (known t at_pages).kept.taken) (and_parts ((run_in r).first % w.pages == 0) (is_free (nano_start t.profile) (known t at_pages).kept.taken (run_in r)) free).1).1 in
-        all_runs (λ x. runs_apart x (run_in r)) (known t (at_magazine w)).kept.runs
-        (λ x y. run_of_all (λ z. runs_apart z (run_in r)) (known t at_pages).kept.taken x apart ((all x).1 (at_magazine w, y)))
+    apart_of lawful = free_apart L t lawful (at_magazine w) (run_in r) w.pages cut.lowest
 
     pub may_adopt : AreLawful t.profile opening t.seen → (v : Keeping) → Keeps t w.magazine v → (i : ℕ) (u : Account) → Taken i u → AreLawful u.profile opening u.seen → MayAdopt v r
     may_adopt lawful v h i u x after =
@@ -270,24 +264,83 @@ module _ (L : BookLaws) (w : Way) (n al : ℕ) (t : Account) (k : Seeks t w n al
 -- and that serves the request
 
 module _ (L : BookLaws) (w : Way) (n al : ℕ) where
-  -- what is sought for is still sought for after the search
-  pub seeks_then : (u v : Account) (got : Result AnyRegion ℕ) → Seeks u w n al → Sought u w got v → Seeks v w n al
+  -- the search leaves the magazine and the depot as they were
+  pub sought_k : (u v : Account) (got : Result SpanView ℕ) → Seeks u w n al → Sought u w.zone w.pages w.pages got v → known v (at_magazine w) ≡ known u (at_magazine w)
+  sought_k u v got k y =
+      let kinds = (L.depot u.profile w.magazine k.can.way.magazine).magazine in
+      y.stays.others (at_magazine w) (holds_all u w (at_magazine w) k.all (four_k L u.profile w k.can.way)) (kinds.apart_from_large w.zone) kinds.apart_from_pages
+
+  pub sought_d : (u v : Account) (got : Result SpanView ℕ) → Seeks u w n al → Sought u w.zone w.pages w.pages got v → known v (at_depot w) ≡ known u (at_depot w)
+  sought_d u v got k y =
+      let kinds = (L.depot u.profile w.magazine k.can.way.magazine).depot in
+      y.stays.others (at_depot w) (holds_all u w (at_depot w) k.all (four_d L u.profile w k.can.way)) (kinds.apart_from_large w.zone) kinds.apart_from_pages
+
+  -- what is sought for is still sought for after it
+  pub seeks_then : (u v : Account) (got : Result SpanView ℕ) → Seeks u w n al → Sought u w.zone w.pages w.pages got v → Seeks v w n al
   seeks_then u v got k y =
       let adds = y.since.grows.adds in
       record {
         can = can_same u v w n al k.can adds.same adds.zones;
-        all = y.can.all;
-        last_k = ap (λ (a : Value). a.last) y.same_k ∙ (k.last_k ∙ ap (λ z. deed_at z (Full w.magazine n al)) (sym adds.same.caller));
-        last_d = ap (λ (a : Value). a.last) y.same_d ∙ (k.last_d ∙ ap (λ z. deed_at z (Full (depot_of w.magazine) n al)) (sym adds.same.caller));
+        all = record {
+          held = y.stays.held ∙ k.all.held;
+          calm_k = ap (λ (a : Value). a.duty) (sought_k u v got k y) ∙ k.all.calm_k;
+          calm_d = ap (λ (a : Value). a.duty) (sought_d u v got k y) ∙ k.all.calm_d;
+          calm_l = y.can.calm_l;
+          calm_p = y.can.calm_p;
+        };
+        last_k = ap (λ (a : Value). a.last) (sought_k u v got k y) ∙ (k.last_k ∙ ap (λ z. deed_at z (Full w.magazine n al)) (sym adds.same.caller));
+        last_d = ap (λ (a : Value). a.last) (sought_d u v got k y) ∙ (k.last_d ∙ ap (λ z. deed_at z (Full (depot_of w.magazine) n al)) (sym adds.same.caller));
       }
 
-  -- the flushes are those of the history that has gone on
-  flushed_then : (u v y : Account) (got : Result AnyRegion ℕ) (more : List Entry) → (q : Sought u w got v) → AreLawful y.profile opening y.seen → y.profile ≡ v.profile → y.seen ≡ v.seen ++ more → AreFlushed y w q.flushes
-  flushed_then u v y got more q lawful same seen = record { are = subst (λ p. AreFlushes p y.seen w.zone w.pages w.pages q.flushes) (sym same) (q.are y.seen more (subst (λ p. AreLawful p opening y.seen) same lawful) seen); each = q.each }
+  -- the run that was found makes a region
+  pub may_fit : (v : Account) (x : SpanView) (pages : Keeping) → AreLawful v.profile opening v.seen → IsWay v.profile w → IsFoundRun v.site v.profile (known v at_pages).kept w.pages w.pages x
+      → Stands pages v.site v.profile Pages (out_of_pages (run_of_span x) (known v at_pages).kept) → MayFit pages x
+  may_fit v x pages lawful way found h =
+      let top = nano_start v.profile in
+      let taken = (known v at_pages).kept.taken in
+      let r = run_of_span x in
+      let fit = L.regions_fit v.profile v.seen lawful in
+      let first = and_parts ((r.first % w.pages == 0) && is_free top taken r) _ found.lowest in
+      let parts = and_parts (r.first % w.pages == 0) (is_free top taken r) first.0 in
+      record {
+        space = v.site;
+        profile = v.profile;
+        magazine = w.magazine;
+        kept = out_of_pages r (known v at_pages).kept;
+        stands = h;
+        is_one = way.magazine;
+        length = subst (λ y. is_length_of w.magazine y ≡ true) (sym found.pages) way.region;
+        whole = found.whole;
+        aligned = subst (λ y. r.first % y ≡ 0) (sym found.pages) (eqb-true (r.first % w.pages) 0 parts.0);
+        one_more_tiny = λ e. fit.one_more_tiny r.first (subst (λ y. is_free top taken (run_at r.first y) ≡ true) e parts.1);
+        one_more_small = λ e. fit.one_more_small r.first (subst (λ y. is_free top taken (run_at r.first y) ≡ true) e parts.1);
+      }
 
-  pub served_fresh : (s t u v x y : Account) (j d : ℕ) (r : AnyRegion) (b : SpanView) → HeldTwo s w n al t u → Sought u w (Ok r) v → IsFresh v w n al r b x → LetsGo x y → AreLawful y.profile opening y.seen
+  pub length_of_run : (v : Account) (x : SpanView) → IsWay v.profile w → IsFoundRun v.site v.profile (known v at_pages).kept w.pages w.pages x → is_length_of w.magazine (run_of_span x).pages ≡ true
+  length_of_run v x way found = subst (λ y. is_length_of w.magazine y ≡ true) (sym found.pages) way.region
+
+  pub record IsRegion (v : Account) (r : AnyRegion) (pages : Keeping) : Type 0 where
+    pub cut : IsCut v.site v.profile w.magazine (known v at_pages).kept w.pages r
+    pub left : Stands pages v.site v.profile Pages (pages_without w.magazine (run_in r) (known v at_pages).kept)
+
+  pub is_region : (v : Account) (x : SpanView) (r : AnyRegion) (pages : Keeping) → IsFoundRun v.site v.profile (known v at_pages).kept w.pages w.pages x
+      → IsFitted w.magazine x r × Stands pages v.site v.profile Pages (with_region_for w.magazine (out_of_pages (run_of_span x) (known v at_pages).kept)) → IsRegion v r pages
+  is_region v x r pages found fits =
+      let fitted = fits.0 in
+      record {
+        cut = record {
+          quantum = fitted.quantum;
+          space = fitted.space ∙ found.space;
+          live = fitted.live;
+          pages = ap (λ (t : Run). t.pages) fitted.run ∙ found.pages;
+          lowest = ap (λ (t : Run). is_lowest_free (nano_start v.profile) (known v at_pages).kept.taken t w.pages) fitted.run ∙ found.lowest;
+        };
+        left = subst (λ (t : Run). Stands pages v.site v.profile Pages (pages_without w.magazine t (known v at_pages).kept)) (sym fitted.run) fits.1;
+      }
+
+  pub served_fresh : (s t u v x y : Account) (j d : ℕ) (run : SpanView) (r : AnyRegion) (b : SpanView) → HeldTwo s w n al t u → (q : Sought u w.zone w.pages w.pages (Ok run) v) → length q.flushes ≤ 32 → IsFresh v w n al r b x → LetsGo x y → AreLawful y.profile opening y.seen
       → Served (entry_at j s.caller (Full w.magazine n al) ∷ entry_at d s.caller (Full w.depot n al) ∷ []) 2 s w n al (Ok b) y
-  served_fresh s t u v x y j d r b h q f go lawful =
+  served_fresh s t u v x y j d run r b h q few f go lawful =
       let c : v.caller ≡ s.caller = q.since.grows.adds.same.caller ∙ h.since.grows.adds.same.caller in
       let more = f.since.grows.adds.more in
       let sought = L.joined s u v [] (q.flushes ++ []) 2 0 h.since q.since in
@@ -301,24 +354,24 @@ module _ (L : BookLaws) (w : Way) (n al : ℕ) where
         grows = rest_grows L s (q.flushes ++ entry_at f.i s.caller (Take w.magazine (run_in r).first w.pages) ∷ entry_at f.j s.caller (New w.magazine b.first n al) ∷ []) 2 x [] y mine go.after;
         nothing_held = ap (λ (a : Account). a.held) go.after;
         served = by_fresh_region b (run_in r).first j d f.i f.j q.flushes refl
-            (flushed_then u v y (Ok r) more q lawful (ap (λ (a : Account). a.profile) go.after ∙ f.since.grows.adds.same.profile) (ap (λ (a : Account). a.seen) go.after ∙ f.since.grows.adds.seen)) refl refl;
+            (flushed_later u v y w.zone w.pages w.pages (Ok run) more q few lawful (ap (λ (a : Account). a.profile) go.after ∙ f.since.grows.adds.same.profile) (ap (λ (a : Account). a.seen) go.after ∙ f.since.grows.adds.seen)) refl refl;
         is = (f.space ∙ sym (ap (λ (a : Account). a.site) go.after ∙ f.since.grows.adds.same.site), f.size);
       }
 
-  pub served_null : (s t u v y : Account) (j d i : ℕ) → HeldTwo s w n al t u → Sought u w (Err i) v → LetsGo v y → AreLawful y.profile opening y.seen
+  pub served_null : (s t u v y : Account) (j d i : ℕ) → HeldTwo s w n al t u → (q : Sought u w.zone w.pages w.pages (Err i) v) → length q.flushes ≤ 32 → LetsGo v y → AreLawful y.profile opening y.seen
       → Served (entry_at j s.caller (Full w.magazine n al) ∷ entry_at d s.caller (Full w.depot n al) ∷ []) 2 s w n al (Err (Ranged j d i)) y
-  served_null s t u v y j d i h q go lawful =
+  served_null s t u v y j d i h q few go lawful =
       let c = h.since.grows.adds.same.caller in
-      let all = L.joined s u v [] (q.flushes ++ dry_at i u.caller w ∷ []) 2 0 h.since q.since in
-      let mine : Grows s (q.flushes ++ dry_at i s.caller w ∷ []) 2 v = subst (λ a. Grows s (q.flushes ++ dry_at i a w ∷ []) 2 v) c all.grows in
+      let all = L.joined s u v [] (q.flushes ++ dry_at i u.caller w.zone w.pages w.pages ∷ []) 2 0 h.since q.since in
+      let mine : Grows s (q.flushes ++ dry_at i s.caller w.zone w.pages w.pages ∷ []) 2 v = subst (λ a. Grows s (q.flushes ++ dry_at i a w.zone w.pages w.pages ∷ []) 2 v) c all.grows in
       record {
-        mine = q.flushes ++ dry_at i s.caller w ∷ [];
+        mine = q.flushes ++ dry_at i s.caller w.zone w.pages w.pages ∷ [];
         holds = 2;
-        grows = rest_grows L s (q.flushes ++ dry_at i s.caller w ∷ []) 2 v [] y mine go.after;
+        grows = rest_grows L s (q.flushes ++ dry_at i s.caller w.zone w.pages w.pages ∷ []) 2 v [] y mine go.after;
         nothing_held = ap (λ (a : Account). a.held) go.after;
         served = null_in_range j d i q.flushes refl
-            (flushed_then u v y (Err i) [] q lawful (ap (λ (a : Account). a.profile) go.after) (ap (λ (a : Account). a.seen) go.after ∙ sym (append-nil v.seen))) refl refl;
-        is = subst (λ (a : Account). IsDried a w i) (sym go.after) (record {
+            (flushed_later u v y w.zone w.pages w.pages (Err i) [] q few lawful (ap (λ (a : Account). a.profile) go.after) (ap (λ (a : Account). a.seen) go.after ∙ sym (append-nil v.seen))) refl refl;
+        is = subst (λ (a : Account). IsDried a w.zone w.pages w.pages i) (sym go.after) (record {
           before = q.is.before;
           seen = q.is.seen;
           calm_p = q.is.calm_p;
@@ -346,5 +399,17 @@ module _ (L : BookLaws) (w : Way) (n al : ℕ) where
         of_d = stands_then s u (depot_of w.magazine) _ _ depot h.since.grows.adds.same (ap (λ (q : Value). q.kept) h.same_d) of_d;
       }
 
-  pub can_seek : (u : Account) → Seeks u w n al → CanSeek u w
-  can_seek u k = record { way = k.can.way; zone_open = k.can.zone_open; all = k.all }
+  pub can_seek : (u : Account) → Seeks u w n al → CanSeek u w.zone w.pages w.pages
+  can_seek u k =
+      let way = k.can.way in
+      let some = some_pages w.magazine w.pages way.magazine way.region in
+      record {
+        zone = test_below w.zone u.profile.zones (zone_below L u.profile w way);
+        zone_open = k.can.zone_open;
+        large = holds_all u w (at_large w) k.all (four_l L u.profile w way);
+        pages = holds_all u w at_pages k.all (four_p L u.profile w way);
+        calm_l = k.all.calm_l;
+        calm_p = k.all.calm_p;
+        some = some;
+        some_alignment = some;
+      }

@@ -1,16 +1,16 @@
 -- What the laws of histories say of what is held.
-use Rattle.std.proofs.Common.{◌≡◌, ℕ, ◌≤◌, ◌==◌, true, false, refl, ap, sym, subst, ◌∙◌, arith, inl, inr, ◌⊎◌, ⊎_elim, None}
-use Rattle.std.specs.Prelude.{◌&&◌}
+use Rattle.std.proofs.Common.{◌≡◌, ℕ, ◌%◌, ◌≤◌, ◌==◌, true, false, refl, ap, sym, subst, ◌∙◌, arith, inl, inr, ◌⊎◌, ⊎_elim, None}
+use Rattle.std.specs.Prelude.{◌&&◌, nat_le}
 use Rattle.std.specs.List.{list_any, list_all}
 use Rattle.std.proofs.lemmas.Bool.{false≢true, and_parts}
 use Rattle.std.proofs.lemmas.Bool.Decides.{nat_tests}
 use Rattle.mz_base.specs.declared.profile.Profile.{Profile}
 use Rattle.mz_base.specs.Space.{Block, Run, block_end, blocks_apart, runs_apart, bytes_of, same_run}
 use Rattle.mz_base.specs.Lists.{has_run, has_block}
-use Rattle.mz_base.specs.Room.{lies_in, has_room}
+use Rattle.mz_base.specs.Room.{lies_in, has_room, is_free, is_lowest_free}
 use Rattle.mz_events.specs.declared.place.Place.{Place}
 use Rattle.mz_events.specs.declared.place.Place.TheVariants.{Pages, Tiny, TinyDepot, Small, SmallDepot, Large, Nano}
-use Rattle.mz_events.specs.Places.{is_magazine, is_depot, is_large, is_nano, is_length_of, quantum_of, depot_of, Spot, same_spot, spot_of, place_of}
+use Rattle.mz_events.specs.Places.{is_magazine, is_depot, is_large, is_nano, is_length_of, quantum_of, depot_of, nano_start, Spot, same_spot, spot_of, place_of}
 use Rattle.mz_events.specs.State.{State, opening, kept_at}
 use Rattle.mz_events.specs.History.{AreLawful}
 use Rattle.mz_events.specs.Separation.{LiesAtHome}
@@ -83,6 +83,15 @@ module _ (L : BookLaws) (s : Account) (lawful : AreLawful s.profile opening s.se
       all_blocks (λ b. blocks_apart b (bytes_of r)) (known s (spot_of q)).kept.live
       (λ b y. let home = home_at s.profile (state_of s) q b plain ((L.separate s.profile s.seen lawful).at_home (spot_of q) b y) in
       block_apart home.0 r b home.2 (run_of_all (λ t. runs_apart t r) (known s (spot_of q)).kept.runs home.0 apart home.1))
+
+  -- so is a free run from the runs of each spot
+  pub free_apart : (j : Spot) (r : Run) (al : ℕ) → is_lowest_free (nano_start s.profile) (known s (spot_of Pages)).kept.taken r al ≡ true → list_all (λ t. runs_apart t r) (known s j).kept.runs ≡ true
+  free_apart j r al low =
+      let taken = (known s (spot_of Pages)).kept.taken in
+      let free = (and_parts ((r.first % al == 0) && is_free (nano_start s.profile) taken r) _ low).0 in
+      let apart = (and_parts (nat_le _ (nano_start s.profile)) (list_all (λ t. runs_apart t r) taken) (and_parts (r.first % al == 0) (is_free (nano_start s.profile) taken r) free).1).1 in
+      all_runs (λ t. runs_apart t r) (known s j).kept.runs
+      (λ t y. run_of_all (λ u. runs_apart u r) taken t apart (((L.separate s.profile s.seen lawful).taken t).1 (j, y)))
 
   -- a block of a place lies in a run of it, or is apart from it
   pub in_or_apart : (q : Place) (r : Run) → is_nano q ≡ false → has_run (known s (spot_of q)).kept.runs r ≡ true → (b : Block) → has_block (known s (spot_of q)).kept.live b ≡ true

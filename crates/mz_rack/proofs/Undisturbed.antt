@@ -3,12 +3,18 @@ use Rattle.std.proofs.Common.{◌≡◌, ℕ, zero, suc, ◌+◌, ◌<◌, ◌�
 use Rattle.std.specs.Prelude.{◌&&◌, ◌||◌, slice_get, if◌then◌else◌}
 use Rattle.std.specs.List.{Contains}
 use Rattle.std.proofs.lemmas.Bool.{false≢true, and_parts, cases_Bool, eqb-true}
+use Rattle.std.proofs.lemmas.List.Elements.{Contains-append_cases}
 use Rattle.mz_base.specs.declared.profile.Profile.{Profile}
 use Rattle.mz_events.specs.declared.entry.Entry.{Entry}
-use Rattle.mz_events.specs.Places.{Spot}
+use Rattle.mz_events.specs.Places.{Spot, keeper_at, nano_page}
+use Rattle.mz_events.specs.State.{opening}
 use Rattle.mz_events.specs.Effect.{touches}
 use Rattle.mz_events.specs.Hands.{own}
-use Rattle.mz_book.specs.Growth.{is_own_touch, is_undisturbed}
+use Rattle.mz_events.specs.History.{AreLawful}
+use Rattle.mz_record.specs.Served.{IsUndisturbed}
+use Rattle.mz_book.specs.Account.{Account, holds_spot}
+use Rattle.mz_book.specs.Growth.{Grows, is_own_touch, is_undisturbed}
+use Rattle.mz_rack.specs.BookLaws.{BookLaws}
 use Rattle.mz_rack.proofs.Steps.{or_elim}
 
 -- tickets are indices, counted from b on
@@ -103,3 +109,16 @@ among_own c (y ∷ es) x (suc k, l, is) mine =
       | inl t ↦ subst (λ b. Contains (if b then y ∷ own c es else own c es) x) (sym t) (suc rest.0, omega (arith, rest.1), rest.2)
       | inr n ↦ subst (λ b. Contains (if b then y ∷ own c es else own c es) x) (sym n) rest
     ]
+
+-- So nobody disturbs a request of which no event touches a page of nano.
+pub none_disturbs : BookLaws → (s t : Account) (mine : List Entry) (m : ℕ) → AreLawful t.profile opening t.seen → Grows s mine m t
+    → ((e : Entry) → Contains mine e → (i : ℕ) → touches s.profile e.event (nano_page i) ≡ false) → IsUndisturbed s.profile t.seen s.caller mine
+none_disturbs L s t mine m lawful grows off e d x (nano_page i) he hd dry hx after before te tx = absurd (false≢true (sym (off e he i) ∙ te))
+none_disturbs L s t mine m lawful grows off e d x (keeper_at q) he hd dry hx after before te tx =
+    let more = grows.adds.more in
+    let all : AreIndices 0 (s.seen ++ more) = subst (λ h. AreIndices 0 h) grows.adds.seen (λ k y at. L.index t.profile opening t.seen lawful k y at) in
+    let tail = indices_behind 0 s.seen more all in
+    let here = own_in s.caller more e (subst (λ es. Contains es e) (sym grows.adds.own_is) he) in
+    let later : Contains more x = ⊎_elim (λ (f : Contains s.seen x). let a = in_front 0 s.seen more x all f in let b = not_below (0 + length s.seen) more e tail here.0 in absurd (omega arith)) (λ (f : Contains more x). f)
+    (Contains-append_cases s.seen more x (subst (λ h. Contains h x) grows.adds.seen hx)) in
+    then_alone s.profile s.caller (keeper_at q) (0 + length s.seen) (holds_spot s (keeper_at q)) more e x tail (grows.undisturbed q) here.0 here.1 te later after tx

@@ -6,13 +6,13 @@ use Rattle.mz_base.specs.declared.profile.Profile.{Profile}
 use Rattle.mz_base.specs.Site.{Site}
 use Rattle.mz_base.specs.Space.{block_at, blocks_apart}
 use Rattle.mz_base.specs.Lists.{blocks_in}
-use Rattle.mz_base.specs.Room.{lies_in, any_has_room, has_free, is_lowest_free}
+use Rattle.mz_base.specs.Room.{lies_in, any_has_room, is_lowest_free}
 use Rattle.mz_ground.specs.Views.{SpanView}
 use Rattle.mz_events.specs.declared.place.Place.{Place}
 use Rattle.mz_events.specs.Places.{quantum_of, nano_start}
 use Rattle.mz_events.specs.State.{Kept}
 use Rattle.mz_events.specs.Room.{wide}
-use Rattle.mz_events.specs.Changes.{with_block, without_run, pages_without, region_at}
+use Rattle.mz_events.specs.Changes.{with_block, without_run, region_at}
 use Rattle.mz_events.specs.Placement.{is_placed_in_magazine}
 use Rattle.mz_events.specs.Rules.{is_lowest_with_room}
 use Rattle.mz_rack.specs.declared.region.AnyRegion.{AnyRegion}
@@ -57,8 +57,3 @@ pub record IsCut (x : Site) (p : Profile) (q : Place) (k : Kept) (w : ℕ) (r : 
   pub live : (view_in r).live ≡ []
   pub pages : (run_in r).pages ≡ w
   pub lowest : IsTrue (is_lowest_free (nano_start p) k.taken (run_in r) w)
-
--- it is out; or none is free
-abbrev pub Cut : Site → Profile → Place → Kept → ℕ → (Kept → Type 0) → Option AnyRegion → Type 0
-Cut x p q k w is None = (has_free (nano_start p) k.taken w w ≡ false) × is k
-Cut x p q k w is (Some r) = IsCut x p q k w r × is (pages_without q (run_in r) k)

@@ -1,14 +1,12 @@
 -- What the calls of keepers need: each is asked of a keeper that stands for some place. This project's own.
-use Rattle.std.specs.Prelude.{◌≡◌, ℕ, ◌%◌, ◌/◌, ◌<◌, ◌≤◌, ◌==◌, ◌||◌, sum_by, IsTrue}
+use Rattle.std.specs.Prelude.{◌≡◌, ℕ, ◌%◌, ◌≤◌, ◌==◌, ◌||◌, sum_by, IsTrue}
 use Rattle.std.specs.List.{list_any, list_all}
 use Rattle.std.specs.Int.{IsPowerOfTwo}
 use Rattle.mz_base.specs.declared.profile.Profile.{Profile}
 use Rattle.mz_base.specs.Site.{Site}
-use Rattle.mz_base.specs.Space.{Run, run_at, run_end, runs_apart}
+use Rattle.mz_base.specs.Space.{Run, run_end, runs_apart}
 use Rattle.mz_base.specs.Lists.{has_run}
-use Rattle.mz_base.specs.Room.{is_free}
 use Rattle.mz_events.specs.declared.place.Place.{Place}
-use Rattle.mz_events.specs.declared.place.Place.TheVariants.{Pages}
 use Rattle.mz_events.specs.Places.{is_magazine, is_depot, is_size_of, is_length_of, quantum_of, nano_start}
 use Rattle.mz_events.specs.State.{Kept}
 use Rattle.mz_events.specs.Changes.{with_region}
@@ -59,16 +57,3 @@ pub record MayAdopt (v : Keeping) (r : AnyRegion) : Type 0 where
   pub of_space : (view_in r).space ≡ space
   pub apart : IsTrue (list_all (λ t. runs_apart t (run_in r)) kept.runs)
   pub tidy : IsTidy profile place (with_region (run_in r) (view_in r).live kept)
-
--- it stands for the free pages, w is the length of a region, and where such a run is free not all regions of the range are made
-pub record MayTake (v : Keeping) (w : ℕ) : Type 0 where
-  pub space : Site
-  pub profile : Profile
-  pub magazine : Place
-  pub kept : Kept
-  pub stands : Stands v space profile Pages kept
-  pub is_one : IsTrue (is_magazine magazine)
-  pub length : IsTrue (is_length_of magazine w)
-  pub taken : InOrder (λ r. r.first) run_end kept.taken
-  pub one_more_tiny : (f : ℕ) → IsTrue (is_free (nano_start profile) kept.taken (run_at f 64)) → kept.tiny_regions < nano_start profile / 64
-  pub one_more_small : (f : ℕ) → IsTrue (is_free (nano_start profile) kept.taken (run_at f 512)) → kept.small_regions < nano_start profile / 512

@@ -10,8 +10,8 @@ use Rattle.mz_events.specs.declared.place.Place.TheVariants.{Large}
 use Rattle.mz_events.specs.declared.event.Event.{Event}
 use Rattle.mz_events.specs.declared.event.Event.TheVariants.{Full}
 use Rattle.mz_events.specs.declared.entry.Entry.{Entry}
-use Rattle.mz_events.specs.Places.{is_magazine, is_depot, is_nano, exists_in, Spot, same_spot, spot_of}
-use Rattle.mz_events.specs.State.{Kept, State, value_at, kept_at, opening}
+use Rattle.mz_events.specs.Places.{is_magazine, is_depot, is_nano, exists_in, zone_of, Spot, same_spot, spot_of, place_of}
+use Rattle.mz_events.specs.State.{Kept, State, value_at, kept_at, opening, is_open}
 use Rattle.mz_events.specs.Effect.{touched, touches}
 use Rattle.mz_events.specs.Duties.{is_unused}
 use Rattle.mz_events.specs.History.{AreLawful, after_all}
@@ -64,4 +64,5 @@ pub record BookLaws : Type 0 where
   pub once : (p : Profile) (s : State) (es : List Entry) → IsOnce s → IsOnce (after_all p s es)
   pub by_spot : (s : State) → IsOnce s → IsBySpot s
   pub somewhere : (s : Account) (b : Block) → IsOrderly s → IsTrue (has_block (hand s) b) → (j : Spot) × IsTrue (has_block (known s j).kept.live b)
+  pub in_open : (p : Profile) (es : List Entry) (j : Spot) (b : Block) → AreLawful p opening es → IsTrue (has_block (kept_at (after_all p opening es) j).live b) → IsTrue (is_open (after_all p opening es) (zone_of (place_of j)))
   pub few_cached : (p : Profile) (es : List Entry) (z : ℕ) → AreLawful p opening es → (value_at (after_all p opening es) (spot_of (Large z))).duty ≡ None → length (kept_at (after_all p opening es) (spot_of (Large z))).cached ≤ 16

@@ -1,6 +1,6 @@
 -- What the calls of keepers that end a block, and give regions up, need: each is asked of a keeper that stands for some place. This
 -- project's own.
-use Rattle.std.specs.Prelude.{◌≡◌, ◌≤◌, ◌||◌, [], length, IsTrue}
+use Rattle.std.specs.Prelude.{◌≡◌, ◌≤◌, Bool, ◌||◌, [], length, IsTrue}
 use Rattle.mz_base.specs.declared.profile.Profile.{Profile}
 use Rattle.mz_base.specs.Site.{Site}
 use Rattle.mz_base.specs.Space.{Run, block_at, run_end}
@@ -8,7 +8,7 @@ use Rattle.mz_base.specs.Lists.{has_run, has_block}
 use Rattle.mz_ground.specs.Views.{SpanView}
 use Rattle.mz_events.specs.declared.place.Place.{Place}
 use Rattle.mz_events.specs.declared.place.Place.TheVariants.{Pages}
-use Rattle.mz_events.specs.Places.{is_magazine, is_depot, is_tiny, is_small, quantum_of, nano_start}
+use Rattle.mz_events.specs.Places.{is_magazine, is_depot, is_large, is_tiny, is_small, quantum_of, nano_start}
 use Rattle.mz_events.specs.State.{Kept}
 use Rattle.mz_events.specs.Changes.{one_for}
 use Rattle.mz_events.specs.Separation.{InOrder}
@@ -16,14 +16,18 @@ use Rattle.mz_events.specs.Standing.{Keeping, Stands}
 use Rattle.mz_rack.specs.declared.region.AnyRegion.{AnyRegion}
 use Rattle.mz_rack.specs.Regions.{quantum_in, view_in, run_in}
 
--- it stands for a magazine or a depot of the span's space, where the span is a live block
+-- a place other than nano in which blocks live
+abbrev pub has_blocks : Place → Bool
+has_blocks q = is_magazine q || is_depot q || is_large q
+
+-- it stands for a place of the span's space where the span is a live block
 pub record MayFree (v : Keeping) (x : SpanView) : Type 0 where
   pub space : Site
   pub profile : Profile
   pub place : Place
   pub kept : Kept
   pub stands : Stands v space profile place kept
-  pub regions : IsTrue (is_magazine place || is_depot place)
+  pub blocks : IsTrue (has_blocks place)
   pub of_space : x.space ≡ space
   pub live : IsTrue (has_block kept.live (block_at x.first (length x.bytes)))
 

@@ -1,5 +1,5 @@
 -- Where a free stands between two calls of the book.
-use Rattle.std.specs.Prelude.{◌≡◌, ◌⊎◌, ℕ, ◌<◌, ◌≤◌, false, nat_lt, ◌||◌, List, [], ◌∷◌, ◌++◌, length, Some, None, IsTrue}
+use Rattle.std.specs.Prelude.{◌≡◌, ◌⊎◌, ℕ, ◌≤◌, false, nat_lt, List, [], ◌∷◌, ◌++◌, length, Some, None, IsTrue}
 use Rattle.std.specs.List.{All, list_all}
 use Rattle.mz_base.specs.Limits.{IsWithinLimits}
 use Rattle.mz_base.specs.declared.profile.Profile.{Profile}
@@ -7,9 +7,10 @@ use Rattle.mz_base.specs.Space.{Block, block_at}
 use Rattle.mz_base.specs.Lists.{has_block}
 use Rattle.mz_ground.specs.Views.{SpanView}
 use Rattle.mz_events.specs.declared.place.Place.{Place}
+use Rattle.mz_events.specs.declared.place.Place.TheVariants.{Large}
 use Rattle.mz_events.specs.declared.event.Event.TheVariants.{Back, Move, End, No}
 use Rattle.mz_events.specs.declared.entry.Entry.{Entry}
-use Rattle.mz_events.specs.Places.{is_magazine, is_depot, zone_of, depot_of, exists_in, spot_of}
+use Rattle.mz_events.specs.Places.{zone_of, depot_of, exists_in, spot_of}
 use Rattle.mz_events.specs.State.{is_open}
 use Rattle.mz_events.specs.Duties.{is_that, recirculation, empty_depot_region, duty_of_end}
 use Rattle.mz_events.specs.Standing.{Keeping}
@@ -20,22 +21,25 @@ use Rattle.mz_book.specs.Account.{Account, state_of, known, hand, holds_spot, St
 use Rattle.mz_book.specs.Calls.{without}
 use Rattle.mz_book.specs.Growth.{Grows, GrowsHolding}
 use Rattle.mz_rack.specs.declared.way.Way.{Way}
+use Rattle.mz_rack.specs.declared.way.LargeWay.{LargeWay}
 use Rattle.mz_rack.specs.declared.home.Home.{Home}
 use Rattle.mz_rack.specs.declared.home.Home.TheVariants.{Magazine, Depot}
+use Rattle.mz_rack.specs.declared.home.Home.TheVariants as home
 use Rattle.mz_rack.specs.Lots.{LotView}
 use Rattle.mz_rack.specs.Ways.{IsWay}
 use Rattle.mz_rack.specs.Freeing.{block_of}
 use Rattle.mz_rack.specs.Stages.{at_magazine, at_depot, Keeps}
+use Rattle.mz_rack.specs.LargeStages.{IsLargeWay, large_spot}
+use Rattle.mz_rack.specs.Ending.{has_blocks}
+use Rattle.mz_rack.specs.Flushing.{IsOldest}
+use Rattle.mz_large.specs.Large.{run_of_span}
 
--- nothing is held, and the block is in the hand, tiny or small, and of an open zone of the profile
+-- nothing is held, and the block is in the hand
 pub record CanLook (s : Account) (p : Profile) (l : LotView) : Type 0 where
   pub limits : IsWithinLimits p
   pub profile : s.profile ≡ p
   pub nothing_held : s.held ≡ []
-  pub zone : l.zone < p.zones
-  pub zone_open : IsTrue (is_open (state_of s) l.zone)
   pub some : 1 ≤ length l.span.bytes
-  pub small : length l.span.bytes ≤ 32768
   pub in_hand : IsTrue (has_block (hand s) (block_of l))
 
 -- other entries came, and nothing is held
@@ -52,9 +56,9 @@ pub record IsThere (s : Account) (k : ℕ) (b : Block) (v : Keeping) (t : Accoun
   pub calm : (known t (keeper_spot t.profile k)).duty ≡ None
   pub live : IsTrue (has_block (known t (keeper_spot t.profile k)).kept.live b)
 
--- the block lives in a place of regions of an open zone, whose keeper alone is held, and no duty stands there
+-- the block lives in a place of an open zone, whose keeper alone is held, and no duty stands there
 pub record LivesIn (s : Account) (q : Place) (b : Block) : Type 0 where
-  pub regions : IsTrue (is_magazine q || is_depot q)
+  pub blocks : IsTrue (has_blocks q)
   pub exists : IsTrue (exists_in s.profile q)
   pub zone_open : IsTrue (is_open (state_of s) (zone_of q))
   pub held : s.held ≡ keeper_of s.profile q ∷ []
@@ -66,11 +70,13 @@ pub record LivesIn (s : Account) (q : Place) (b : Block) : Type 0 where
 abbrev pub HasHome : Account → Block → Home → Type 0
 HasHome s b (Magazine w v) = IsWay s.profile w × LivesIn s w.magazine b × Keeps s w.magazine v
 HasHome s b (Depot w v) = IsWay s.profile w × LivesIn s (depot_of w.magazine) b × Keeps s (depot_of w.magazine) v
+HasHome s b (home.Large w v) = IsLargeWay s.profile w × LivesIn s (Large w.zone) b × Keeps s (Large w.zone) v
 
 -- the zone of a home
 abbrev pub home_zone : Home → ℕ
 home_zone (Magazine w v) = w.zone
 home_zone (Depot w v) = w.zone
+home_zone (home.Large w v) = w.zone
 
 -- and that is in zone z
 abbrev pub IsHome : Account → ℕ → Block → Home → Type 0
@@ -98,6 +104,21 @@ pub record HasEnded (s : Account) (q : Place) (b : Block) (t : Account) : Type 0
   pub held : t.held ≡ s.held
   pub owes : (known t (spot_of q)).duty ≡ duty_of_end q (known t (spot_of q)).kept
 
+-- large of a zone is held, and owes the pages its oldest run, which is out
+pub record OwesRun (s : Account) (w : LargeWay) (x : SpanView) : Type 0 where
+  pub way : IsLargeWay s.profile w
+  pub zone_open : IsTrue (is_open (state_of s) w.zone)
+  pub held : s.held ≡ w.l ∷ []
+  pub duty : (known s (large_spot w)).duty ≡ Some (Back (Large w.zone) (run_of_span x).first (run_of_span x).pages)
+  pub oldest : IsOldest s.site (known s (large_spot w)).kept x
+
+-- the run is back, no duty is left, and nothing is held
+pub record HasPushed (s : Account) (w : LargeWay) (x : SpanView) (t : Account) : Type 0 where
+  pub ticket : ℕ
+  pub grows : Grows s (entry_at ticket s.caller (Back (Large w.zone) (run_of_span x).first (run_of_span x).pages) ∷ []) 1 t
+  pub nothing_held : t.held ≡ []
+  pub left : duty_left s.profile t.seen (entry_at ticket s.caller (Back (Large w.zone) (run_of_span x).first (run_of_span x).pages)) ≡ None
+
 -- the magazine alone is held, and owes its depot the region at page f
 pub record OwesMove (s : Account) (w : Way) (f : ℕ) : Type 0 where
   pub way : IsWay s.profile w
@@ -119,6 +140,7 @@ pub record Settles (s : Account) (w : Way) (t : Account) : Type 0 where
   pub mine : List Entry
   pub holds : ℕ
   pub grows : Grows s mine holds t
+  pub few : length mine ≤ 1
   pub held : t.held ≡ without w.d s.held
   pub stays : IsTrue (holds_spot s (at_magazine w)) → known t (at_magazine w) ≡ known s (at_magazine w)
   pub settled : ((known s (at_depot w)).duty ≡ None) × (mine ≡ [])
@@ -131,6 +153,7 @@ pub record HasMoved (s : Account) (w : Way) (f : ℕ) (t : Account) : Type 0 whe
   pub rest : List Entry
   pub holds : ℕ
   pub grows : Grows s (entry_at ticket s.caller (Move f w.magazine w.depot) ∷ rest) holds t
+  pub few : length rest ≤ 1
   pub nothing_held : t.held ≡ []
   pub none_again : All (λ e. is_that (Move f w.magazine w.depot) e.event ≡ false) rest
   pub met : MeetDuties s.profile t.seen (entry_at ticket s.caller (Move f w.magazine w.depot)) rest
@@ -139,6 +162,7 @@ pub record HasMoved (s : Account) (w : Way) (f : ℕ) (t : Account) : Type 0 whe
 pub record IsOver (s : Account) (b : Block) (t : Account) : Type 0 where
   pub mine : List Entry
   pub holds : ℕ
+  pub few : length mine ≤ 3
   pub grows : Grows s mine holds t
   pub nothing_held : t.held ≡ []
   pub dropped : IsDropped s.profile t.seen b mine

@@ -10,8 +10,12 @@ pub mod Serving
 pub mod Freeing
 pub mod Stages
 pub mod Ending
+pub mod LargeStages
 pub mod FreeStages
 pub mod BookLaws
+pub mod Runs
 pub mod Flushing
 pub mod Seeking
 pub mod TwoZones
+pub mod Resizing
+pub mod ResizeStages

@@ -1,84 +1,95 @@
 -- Where the search for free pages stands between two calls of the book.
-use Rattle.std.specs.Prelude.{◌≡◌, ℕ, ◌*◌, ◌≤◌, List, [], ◌∷◌, ◌++◌, length, Result, Ok, Err, IsTrue}
+use Rattle.std.specs.Prelude.{◌≡◌, ℕ, ◌*◌, ◌<◌, ◌≤◌, false, List, [], ◌∷◌, ◌++◌, length, None, Result, Ok, Err, IsTrue}
 use Rattle.std.specs.List.{All}
-use Rattle.mz_base.specs.Space.{run_at}
+use Rattle.mz_base.specs.Space.{Run, run_at}
+use Rattle.mz_ground.specs.Views.{SpanView}
 use Rattle.mz_events.specs.declared.place.Place.TheVariants.{Pages, Large}
 use Rattle.mz_events.specs.declared.event.Event.TheVariants.{Back, Dry}
 use Rattle.mz_events.specs.declared.entry.Entry.{Entry}
+use Rattle.mz_events.specs.Places.{Spot, same_spot, spot_of}
 use Rattle.mz_events.specs.State.{is_open, opening}
 use Rattle.mz_events.specs.History.{AreLawful}
-use Rattle.mz_events.specs.Changes.{pages_without}
 use Rattle.mz_events.specs.Standing.{Keeping, Stands}
 use Rattle.mz_record.specs.Moments.{MeetsDuty}
 use Rattle.mz_record.specs.Served.{AreFlushes}
-use Rattle.mz_book.specs.Account.{Account, state_of, known, entry_at}
+use Rattle.mz_book.specs.Account.{Account, state_of, known, holds_spot, entry_at}
 use Rattle.mz_book.specs.Growth.{GrowsHolding}
-use Rattle.mz_rack.specs.declared.way.Way.{Way}
-use Rattle.mz_rack.specs.declared.region.AnyRegion.{AnyRegion}
-use Rattle.mz_rack.specs.Regions.{run_in}
-use Rattle.mz_rack.specs.Ways.{IsWay}
-use Rattle.mz_rack.specs.Answering.{IsCut}
-use Rattle.mz_rack.specs.Stages.{at_magazine, at_depot, at_large, at_pages, Keeps, AllHeld, IsDried, IsFlush}
+use Rattle.mz_large.specs.Large.{run_of_span}
+use Rattle.mz_rack.specs.Runs.{out_of_pages, IsFoundRun}
+use Rattle.mz_rack.specs.Stages.{at_pages, Keeps, IsDried, IsFlush}
 
--- all four are held, and the way's zone is open
-pub record CanSeek (s : Account) (w : Way) : Type 0 where
-  pub way : IsWay s.profile w
-  pub zone_open : IsTrue (is_open (state_of s) w.zone)
-  pub all : AllHeld s w
+-- large of zone z and the free pages are held, no duty stands there, and the zone is open; w pages are sought at a multiple of al
+pub record CanSeek (s : Account) (z w al : ℕ) : Type 0 where
+  pub zone : z < s.profile.zones
+  pub zone_open : IsTrue (is_open (state_of s) z)
+  pub large : IsTrue (holds_spot s (spot_of (Large z)))
+  pub pages : IsTrue (holds_spot s at_pages)
+  pub calm_l : (known s (spot_of (Large z))).duty ≡ None
+  pub calm_p : (known s at_pages).duty ≡ None
+  pub some : 1 ≤ w
+  pub some_alignment : 1 ≤ al
 
--- the entry of caller c that says that the pages have no run for a region of the way
-abbrev pub dry_at : ℕ → ℕ → Way → Entry
-dry_at i c w = entry_at i c (Dry w.zone w.pages w.pages)
+-- the cached runs of zone z, as the book knows them
+abbrev pub cached_in : Account → ℕ → List Run
+cached_in s z = (known s (spot_of (Large z))).kept.cached
 
--- The pages were dry, and the oldest cached run of the zone went back to them, by a duty, in each history that goes on. The
--- magazine and the depot are as they were.
-pub record IsFlushed (s : Account) (w : Way) (t : Account) : Type 0 where
+-- the same keepers are held, and what the book knows of their places stays, but for large of zone z and the free pages
+pub record KeepsOthers (s : Account) (z : ℕ) (t : Account) : Type 0 where
+  pub held : t.held ≡ s.held
+  pub others : (j : Spot) → IsTrue (holds_spot s j) → same_spot j (spot_of (Large z)) ≡ false → same_spot j at_pages ≡ false → known t j ≡ known s j
+
+-- the entry of caller c that says that the pages have no such run
+abbrev pub dry_at : ℕ → ℕ → ℕ → ℕ → ℕ → Entry
+dry_at i c z w al = entry_at i c (Dry z w al)
+
+-- The pages were dry, and the oldest cached run of the zone went back to them, by a duty, in each history that goes on.
+pub record IsFlushed (s : Account) (z w al : ℕ) (t : Account) : Type 0 where
   pub i : ℕ
   pub j : ℕ
   pub f : ℕ
   pub n : ℕ
-  pub since : GrowsHolding s (dry_at i s.caller w ∷ entry_at j s.caller (Back (Large w.zone) f n) ∷ []) 0 t
-  pub can : CanSeek t w
-  pub same_k : known t (at_magazine w) ≡ known s (at_magazine w)
-  pub same_d : known t (at_depot w) ≡ known s (at_depot w)
-  pub fewer : (known s (at_large w)).kept.cached ≡ run_at f n ∷ (known t (at_large w)).kept.cached
-  pub met : (h later : List Entry) → AreLawful t.profile opening h → h ≡ t.seen ++ later → MeetsDuty t.profile h (dry_at i s.caller w) (entry_at j s.caller (Back (Large w.zone) f n))
+  pub since : GrowsHolding s (dry_at i s.caller z w al ∷ entry_at j s.caller (Back (Large z) f n) ∷ []) 0 t
+  pub can : CanSeek t z w al
+  pub stays : KeepsOthers s z t
+  pub fewer : cached_in s z ≡ run_at f n ∷ cached_in t z
+  pub met : (h later : List Entry) → AreLawful t.profile opening h → h ≡ t.seen ++ later → MeetsDuty t.profile h (dry_at i s.caller z w al) (entry_at j s.caller (Back (Large z) f n))
 
 -- the pages were dry, and nothing is cached
-pub record IsEmpty (s : Account) (w : Way) (i : ℕ) (t : Account) : Type 0 where
-  pub since : GrowsHolding s (dry_at i s.caller w ∷ []) 0 t
-  pub all : AllHeld t w
-  pub same_k : known t (at_magazine w) ≡ known s (at_magazine w)
-  pub same_d : known t (at_depot w) ≡ known s (at_depot w)
-  pub last : IsDried t w i
+pub record IsEmpty (s : Account) (z w al i : ℕ) (t : Account) : Type 0 where
+  pub since : GrowsHolding s (dry_at i s.caller z w al ∷ []) 0 t
+  pub can : CanSeek t z w al
+  pub stays : KeepsOthers s z t
+  pub same : cached_in t z ≡ cached_in s z
+  pub last : IsDried t z w al i
 
-abbrev pub Flushes : Account → Way → Result (Unit {0}) ℕ → Account → Type 0
-Flushes s w (Ok u) t = IsFlushed s w t
-Flushes s w (Err i) t = IsEmpty s w i t
+abbrev pub Flushes : Account → ℕ → ℕ → ℕ → Result (Unit {0}) ℕ → Account → Type 0
+Flushes s z w al (Ok u) t = IsFlushed s z w al t
+Flushes s z w al (Err i) t = IsEmpty s z w al i t
 
--- the last dry of a search that finds no region
-abbrev pub last_dry : ℕ → Way → Result AnyRegion ℕ → List Entry
-last_dry c w (Ok r) = []
-last_dry c w (Err i) = dry_at i c w ∷ []
+-- the last dry of a search that finds no run
+abbrev pub last_dry : ℕ → ℕ → ℕ → ℕ → Result SpanView ℕ → List Entry
+last_dry c z w al (Ok x) = []
+last_dry c z w al (Err i) = dry_at i c z w al ∷ []
 
--- a region was made of the lowest free run, or the pages are dry and nothing is cached
-abbrev pub IsFound : Account → Way → Result AnyRegion ℕ → Type 0
-IsFound t w (Ok r) = IsCut t.site t.profile w.magazine (known t at_pages).kept w.pages r
-IsFound t w (Err i) = IsDried t w i
+-- the lowest free run is out, or the pages are dry and nothing is cached
+abbrev pub IsFound : Account → ℕ → ℕ → ℕ → Result SpanView ℕ → Type 0
+IsFound t z w al (Ok x) = IsFoundRun t.site t.profile (known t at_pages).kept w al x
+IsFound t z w al (Err i) = IsDried t z w al i
 
--- The pages were searched, with as many flushes as it took. The magazine and the depot are as they were.
-pub record Sought (s : Account) (w : Way) (got : Result AnyRegion ℕ) (t : Account) : Type 0 where
+-- The pages were searched, with as many flushes as it took, each for one cached run.
+pub record Sought (s : Account) (z w al : ℕ) (got : Result SpanView ℕ) (t : Account) : Type 0 where
   pub flushes : List Entry
-  pub since : GrowsHolding s (flushes ++ last_dry s.caller w got) 0 t
-  pub each : All (λ e. IsFlush w e.event) flushes
-  pub few : length flushes ≤ 2 * length (known s (at_large w)).kept.cached
-  pub can : CanSeek t w
-  pub same_k : known t (at_magazine w) ≡ known s (at_magazine w)
-  pub same_d : known t (at_depot w) ≡ known s (at_depot w)
-  pub are : (h later : List Entry) → AreLawful t.profile opening h → h ≡ t.seen ++ later → AreFlushes t.profile h w.zone w.pages w.pages flushes
-  pub is : IsFound t w got
+  pub flushed : List Run
+  pub since : GrowsHolding s (flushes ++ last_dry s.caller z w al got) 0 t
+  pub each : All (λ e. IsFlush z w al e.event) flushes
+  pub cached : cached_in s z ≡ flushed ++ cached_in t z
+  pub few : length flushes ≡ 2 * length flushed
+  pub can : CanSeek t z w al
+  pub stays : KeepsOthers s z t
+  pub are : (h later : List Entry) → AreLawful t.profile opening h → h ≡ t.seen ++ later → AreFlushes t.profile h z w al flushes
+  pub is : IsFound t z w al got
 
--- the keeper stands for the free pages, without the region that was made
-abbrev pub KeepsSought : Account → Way → Result AnyRegion ℕ → Keeping → Type 0
-KeepsSought t w (Ok r) v = Stands v t.site t.profile Pages (pages_without w.magazine (run_in r) (known t at_pages).kept)
-KeepsSought t w (Err i) v = Keeps t Pages v
+-- the keeper stands for the free pages, without the run that is out
+abbrev pub KeepsSought : Account → Result SpanView ℕ → Keeping → Type 0
+KeepsSought t (Ok x) v = Stands v t.site t.profile Pages (out_of_pages (run_of_span x) (known t at_pages).kept)
+KeepsSought t (Err i) v = Keeps t Pages v

@@ -55,10 +55,11 @@ abbrev pub IsAnswer : ℕ → Site → List Entry → Result LotView Null → Ty
 IsAnswer z x es (Ok l) = (l.zone ≡ z) × (l.span.space ≡ x)
 IsAnswer z x es (Err e) = TellsTickets e es
 
--- The caller's request for n bytes at al in zone z is answered: the record grew by just the entries that serve it, only the
--- keepers of its case were taken, nothing is held, and no block of nano was made.
+-- The caller's request for n bytes at al in zone z is answered: the record grew by just the entries that serve it, 36 at most, only
+-- the keepers of its case were taken, nothing is held, and no block of nano was made.
 pub record Answers (s : Account) (z n al : ℕ) (got : Result LotView Null) (t : Account) : Type 0 where
   pub mine : List Entry
+  pub few : length mine ≤ 36
   pub grows : Grows s mine (keepers_for (events mine)) t
   pub nothing_held : HoldsNothing t
   pub serves : Serves s.profile t.seen (request_of s.caller z n al) mine (block_got got)

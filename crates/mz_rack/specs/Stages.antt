@@ -146,20 +146,21 @@ pub record LetsGo (s t : Account) : Type 0 where
   pub after : t ≡ record s { held = [] }
 
 -- the last that was seen is the caller's dry of this ticket, and it left no duty
-pub record IsDried (t : Account) (w : Way) (i : ℕ) : Type 0 where
+pub record IsDried (t : Account) (z w al i : ℕ) : Type 0 where
   pub before : List Entry
-  pub seen : t.seen ≡ before ++ entry_at i t.caller (Dry w.zone w.pages w.pages) ∷ []
+  pub seen : t.seen ≡ before ++ entry_at i t.caller (Dry z w al) ∷ []
   pub calm_p : (known t at_pages).duty ≡ None
-  pub calm_l : (known t (at_large w)).duty ≡ None
+  pub calm_l : (known t (spot_of (Large z))).duty ≡ None
 
 -- what a search for pages notes on its way: the pages are dry, or a run of large goes back to them
-abbrev pub IsFlush : Way → Event → Type 0
-IsFlush w e = (e ≡ Dry w.zone w.pages w.pages) ⊎ ((f : ℕ) × (n : ℕ) × (e ≡ Back (Large w.zone) f n))
+abbrev pub IsFlush : ℕ → ℕ → ℕ → Event → Type 0
+IsFlush z w al e = (e ≡ Dry z w al) ⊎ ((f : ℕ) × (n : ℕ) × (e ≡ Back (Large z) f n))
 
--- as often as the pages were dry, the oldest cached run went back to them
-pub record AreFlushed (t : Account) (w : Way) (flushes : List Entry) : Type 0 where
-  pub are : AreFlushes t.profile t.seen w.zone w.pages w.pages flushes
-  pub each : All (λ e. IsFlush w e.event) flushes
+-- as often as the pages were dry, the oldest cached run went back to them: each of 16 at most
+pub record AreFlushed (t : Account) (z w al : ℕ) (flushes : List Entry) : Type 0 where
+  pub are : AreFlushes t.profile t.seen z w al flushes
+  pub each : All (λ e. IsFlush z w al e.event) flushes
+  pub few : length flushes ≤ 32
 
 -- the entries of caller c serve the request with this span, or with none, as t has seen, and so many keepers are taken
 pub data IsServed (c : ℕ) (t : Account) (w : Way) (n al : ℕ) (es : List Entry) (holds : ℕ) (got : Result SpanView Null) : Type 0 where
@@ -172,15 +173,15 @@ pub data IsServed (c : ℕ) (t : Account) (w : Way) (n al : ℕ) (es : List Entr
   by_fresh_region :
       (x : SpanView) (f m d i j : ℕ) (flushes : List Entry)
       → es ≡ entry_at m c (Full w.magazine n al) ∷ entry_at d c (Full w.depot n al) ∷ (flushes ++ entry_at i c (Take w.magazine f w.pages) ∷ entry_at j c (New w.magazine x.first n al) ∷ [])
-      → AreFlushed t w flushes → holds ≡ 4 → got ≡ Ok x → IsServed c t w n al es holds got
+      → AreFlushed t w.zone w.pages w.pages flushes → holds ≡ 4 → got ≡ Ok x → IsServed c t w n al es holds got
   null_in_range :
       (m d p : ℕ) (flushes : List Entry)
       → es ≡ entry_at m c (Full w.magazine n al) ∷ entry_at d c (Full w.depot n al) ∷ (flushes ++ entry_at p c (Dry w.zone w.pages w.pages) ∷ [])
-      → AreFlushed t w flushes → holds ≡ 4 → got ≡ Err (Ranged m d p) → IsServed c t w n al es holds got
+      → AreFlushed t w.zone w.pages w.pages flushes → holds ≡ 4 → got ≡ Err (Ranged m d p) → IsServed c t w n al es holds got
 
 abbrev pub IsGot : Account → Way → ℕ → Result SpanView Null → Type 0
 IsGot t w n (Ok x) = (x.space ≡ t.site) × (length x.bytes ≡ n)
-IsGot t w n (Err (Ranged m d p)) = IsDried t w p
+IsGot t w n (Err (Ranged m d p)) = IsDried t w.zone w.pages w.pages p
 IsGot t w n (Err (null.Large c p)) = ⊥
 
 -- The request is served: the record grew by just that, behind the entries in front, for which k keepers were taken, and

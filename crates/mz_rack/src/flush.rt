@@ -4,40 +4,41 @@ ghost use Rattle.mz_base.specs.Room.{has_free};
 ghost use Rattle.mz_events.specs.declared.place.Place.TheVariants as place;
 ghost use Rattle.mz_events.specs.Places.{nano_start};
 ghost use Rattle.mz_book.specs.Account.{known};
-ghost use Rattle.mz_rack.specs.Stages.{Keeps, at_large, at_pages};
-ghost use Rattle.mz_rack.specs.Seeking.{CanSeek, Flushes, Sought, KeepsSought};
+ghost use Rattle.mz_rack.specs.Stages.{Keeps, at_pages};
+ghost use Rattle.mz_rack.specs.Seeking.{CanSeek, cached_in, Flushes, Sought, KeepsSought};
 
 use crate::keeper::Keeper;
 use crate::laws::of_books;
-use crate::region::AnyRegion;
-use crate::way::Way;
 use mz_base::PAGE;
 use mz_book::Book;
 use mz_events::laws::entries::states_split;
 use mz_events::{Event, Place};
+use mz_ground::Span;
 use mz_record::laws::moments;
 
-/// The lowest free region of the way's range. As long as the pages are dry, the run that large of the zone cached first
-/// goes back to them. Where they are dry and nothing is cached, answers the ticket of the entry that says so.
+/// The lowest free run of `w` pages at a multiple of `al`. As long as the pages are dry, the run that large of the zone
+/// cached first goes back to them. Where they are dry and nothing is cached, answers the ticket of the entry that says so.
 pub(crate) fn seek<B: Book<Keeper>>(
     book: &mut B,
-    w: &Way,
+    zone: u32,
     large: &mut Keeper,
     pages: &mut Keeper,
-) -> Result<AnyRegion, u64>
-    requires can { CanSeek (B.account book.old) w.now }
-    requires room { 2 * length (known (B.account book.old) (at_large w.now)).kept.cached + 1 ≤ (B.account book.old).spare }
-    requires stands_l { Keeps (B.account book.old) (place.Large w.now.zone) large.old }
+    w: u64,
+    al: u64,
+) -> Result<Span, u64>
+    requires can { CanSeek (B.account book.old) zone w al }
+    requires room { 2 * length (cached_in (B.account book.old) zone) + 1 ≤ (B.account book.old).spare }
+    requires stands_l { Keeps (B.account book.old) (place.Large zone) large.old }
     requires stands_p { Keeps (B.account book.old) place.Pages pages.old }
-    ensures sought { Sought (B.account book.old) w.now result (B.account book.new) }
-    ensures stands_l { Keeps (B.account book.new) (place.Large w.now.zone) large.new }
-    ensures stands_p { KeepsSought (B.account book.new) w.now result pages.new }
+    ensures sought { Sought (B.account book.old) zone w al result (B.account book.new) }
+    ensures stands_l { Keeps (B.account book.new) (place.Large zone) large.new }
+    ensures stands_p { KeepsSought (B.account book.new) result pages.new }
 {
     of_books();
-    match pages.take(w.pages) {
-        Some(region) => Ok(region),
-        None => match flush(book, w, large, pages) {
-            Ok(()) => seek(book, w, large, pages),
+    match pages.take_run(w, al) {
+        Some(span) => Ok(span),
+        None => match flush(book, zone, large, pages, w, al) {
+            Ok(()) => seek(book, zone, large, pages, w, al),
             Err(dry) => Err(dry),
         },
     }
@@ -47,32 +48,30 @@ pub(crate) fn seek<B: Book<Keeper>>(
 // ticket of what was noted.
 fn flush<B: Book<Keeper>>(
     book: &mut B,
-    w: &Way,
+    zone: u32,
     large: &mut Keeper,
     pages: &mut Keeper,
+    w: u64,
+    al: u64,
 ) -> Result<(), u64>
-    requires can { CanSeek (B.account book.old) w.now }
-    requires dry { let s = B.account book.old in has_free (nano_start s.profile) (known s at_pages).kept.taken w.now.pages w.now.pages ≡ false }
-    requires room { 2 * length (known (B.account book.old) (at_large w.now)).kept.cached + 1 ≤ (B.account book.old).spare }
-    requires stands_l { Keeps (B.account book.old) (place.Large w.now.zone) large.old }
+    requires can { CanSeek (B.account book.old) zone w al }
+    requires dry { let s = B.account book.old in has_free (nano_start s.profile) (known s at_pages).kept.taken w al ≡ false }
+    requires room { 2 * length (cached_in (B.account book.old) zone) + 1 ≤ (B.account book.old).spare }
+    requires stands_l { Keeps (B.account book.old) (place.Large zone) large.old }
     requires stands_p { Keeps (B.account book.old) place.Pages pages.old }
-    ensures flushes { Flushes (B.account book.old) w.now result (B.account book.new) }
-    ensures stands_l { Keeps (B.account book.new) (place.Large w.now.zone) large.new }
+    ensures flushes { Flushes (B.account book.old) zone w al result (B.account book.new) }
+    ensures stands_l { Keeps (B.account book.new) (place.Large zone) large.new }
     ensures stands_p { Keeps (B.account book.new) place.Pages pages.new }
 {
     of_books();
     states_split();
     moments();
-    let dry = book.note(Event::Dry {
-        zone: w.zone,
-        pages: w.pages,
-        al: w.pages,
-    });
+    let dry = book.note(Event::Dry { zone, pages: w, al });
     let Some(run) = large.flush_one() else {
         return Err(dry);
     };
     book.note(Event::Back {
-        k: Place::Large { zone: w.zone },
+        k: Place::Large { zone },
         first: run.first() / PAGE,
         pages: run.len() / PAGE,
     });

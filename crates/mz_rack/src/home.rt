@@ -7,20 +7,21 @@ ghost use Rattle.mz_rack.specs.FreeStages.{CanLook, PassedBy, IsThere, LivesAt};
 use crate::keeper::Keeper;
 use crate::laws::of_books;
 use crate::lot::Lot;
-use crate::way::{Way, find_way};
-use mz_base::Profile;
+use crate::way::{LargeWay, Way, find_large_way, find_way};
+use mz_base::{Profile, Range, route};
 use mz_book::Book;
 use std::sync::Wait;
 
-/// The place in which a block was found, a magazine or the depot of a way, with its keeper.
+/// The place in which a block was found, the magazine or the depot of a way, or large of a zone, with its keeper.
 #[derive(Drop)]
 pub(crate) enum Home {
     Magazine(Way, Keeper),
     Depot(Way, Keeper),
+    Large(LargeWay, Keeper),
 }
 
 /// Looks for the block in the places of its range in its zone, and begins again where none has it. The keeper of
-/// the place that has it stays held.
+/// the place that has it stays held. A large block is found at the first look, since large of its zone is one place.
 pub(crate) fn find_home<B: Book<Keeper>, R: Wait>(
     rt: &R,
     book: &mut B,
@@ -39,7 +40,8 @@ pub(crate) fn find_home<B: Book<Keeper>, R: Wait>(
     unreachable!()
 }
 
-// Looks for the block in each of the places once, in ascending order of their keepers' numbers, one held at a time.
+// Looks for the block in each of the places once, in ascending order of their keepers' numbers, one held at a time. A
+// zone that the profile doesn't have has no places.
 fn look_around<B: Book<Keeper>, R: Wait>(
     rt: &R,
     book: &mut B,
@@ -47,6 +49,49 @@ fn look_around<B: Book<Keeper>, R: Wait>(
     lot: &Lot,
 ) -> Option<Home>
     requires { CanLook (B.account book.old) p.now lot.now }
+    ensures { MatchOption result (PassedBy (B.account book.old) (B.account book.new))
+        (λ h. LivesAt (B.account book.old) lot.now.zone (block_of lot.now) h (B.account book.new)) }
+{
+    of_books();
+    if lot.zone() >= p.zones {
+        None
+    } else if route(lot.size()) == Range::Large {
+        look_in_large(rt, book, p, lot)
+    } else {
+        look_in_regions(rt, book, p, lot)
+    }
+}
+
+// Large of the lot's zone.
+fn look_in_large<B: Book<Keeper>, R: Wait>(
+    rt: &R,
+    book: &mut B,
+    p: &Profile,
+    lot: &Lot,
+) -> Option<Home>
+    requires can { CanLook (B.account book.old) p.now lot.now }
+    requires zone { lot.now.zone < p.now.zones }
+    ensures { MatchOption result (PassedBy (B.account book.old) (B.account book.new))
+        (λ h. LivesAt (B.account book.old) lot.now.zone (block_of lot.now) h (B.account book.new)) }
+{
+    of_books();
+    let way = find_large_way(p, lot.zone());
+    match look_into(rt, book, way.l, lot) {
+        Some(large) => Some(Home::Large(way, large)),
+        None => None,
+    }
+}
+
+// The magazines of the lot's range, and then their depot.
+fn look_in_regions<B: Book<Keeper>, R: Wait>(
+    rt: &R,
+    book: &mut B,
+    p: &Profile,
+    lot: &Lot,
+) -> Option<Home>
+    requires can { CanLook (B.account book.old) p.now lot.now }
+    requires zone { lot.now.zone < p.now.zones }
+    requires small { length lot.now.span.bytes ≤ 32768 }
     ensures { MatchOption result (PassedBy (B.account book.old) (B.account book.new))
         (λ h. LivesAt (B.account book.old) lot.now.zone (block_of lot.now) h (B.account book.new)) }
 {

@@ -12,7 +12,7 @@ ghost use Rattle.mz_events.specs.declared.place.Place.TheVariants as place_is;
 ghost use Rattle.mz_events.specs.declared.event.Event.TheVariants as event;
 ghost use Rattle.mz_events.specs.Places.{is_magazine, is_depot, is_size_of, is_length_of, quantum_of, depot_of, nano_start};
 ghost use Rattle.mz_events.specs.State.{Kept, nothing_kept};
-ghost use Rattle.mz_events.specs.Changes.{with_region, without_block, pages_with};
+ghost use Rattle.mz_events.specs.Changes.{with_block, with_run, with_region, without_block, pages_with};
 ghost use Rattle.mz_events.specs.Duties.{recirculation, empty_depot_region};
 ghost use Rattle.mz_events.specs.Separation.{has_page, InOrder};
 ghost use Rattle.mz_events.specs.Standing.{Keeping, Stands};
@@ -20,11 +20,13 @@ ghost use Rattle.mz_book.specs.Keepers.{keeper_count, place_in_zone};
 ghost use Rattle.mz_book.specs.Plain.{last_site, StandAtFirst};
 ghost use Rattle.mz_rack.specs.Keepings.{lists_of};
 ghost use Rattle.mz_rack.specs.Regions.{quantum_in, run_in, view_in};
-ghost use Rattle.mz_rack.specs.Asking.{IsTidy, MayAsk, MayYield, MayAdopt, MayTake};
-ghost use Rattle.mz_rack.specs.Answering.{Placed, FoundRoom, Yielded, Cut};
-ghost use Rattle.mz_rack.specs.Flushing.{Flushed, IsLackedRun, MayPutRunBack};
-ghost use Rattle.mz_large.specs.Large.{run_of_span};
-ghost use Rattle.mz_rack.specs.Ending.{MayFree, IsLacked, MayPutBack};
+ghost use Rattle.mz_rack.specs.Asking.{IsTidy, MayAsk, MayYield, MayAdopt};
+ghost use Rattle.mz_rack.specs.Answering.{Placed, FoundRoom, Yielded};
+ghost use Rattle.mz_rack.specs.Flushing.{Flushed, PushedOut, IsLackedRun, MayPutRunBack};
+ghost use Rattle.mz_rack.specs.Runs.{MaySeekRun, FoundRun, MayFit, IsFitted, with_region_for, Reused, MayEnter};
+ghost use Rattle.mz_large.specs.Large.{block_of, run_of_span};
+ghost use Rattle.mz_rack.specs.Ending.{has_blocks, MayFree, IsLacked, MayPutBack};
+ghost use Rattle.mz_rack.specs.ResizeStages.{MayResize, Refits};
 
 use crate::region::AnyRegion;
 use crate::shelf::Shelf;
@@ -221,26 +223,57 @@ impl Keeper {
         }
     }
 
-    // Makes a region of the lowest free run of `w` pages at a multiple of `w`, or answers None where none is free.
-    pub(crate) fn take(&mut self, w: u64) -> Option<AnyRegion>
-        requires { MayTake self.old w }
-        ensures { (x : Site) (p : profile) (q : place) (k : Kept) → Stands self.old x p place_is.Pages k → IsTrue (is_magazine q) → IsTrue (is_length_of q w) → InOrder (λ r. r.first) run_end k.taken → Cut x p q k w (Stands self.new x p place_is.Pages) result }
+    // Hands out the lowest free run of `w` pages at a multiple of `al`, or None where none is free.
+    pub(crate) fn take_run(&mut self, w: u64, al: u64) -> Option<Span>
+        requires { MaySeekRun self.old w al }
+        ensures { (x : Site) (p : profile) (k : Kept) → Stands self.old x p place_is.Pages k → InOrder (λ r. r.first) run_end k.taken → FoundRun x p k w al (Stands self.new x p place_is.Pages) result }
     {
         a_run_is_read();
         let Kind::Pages(stock) = &mut self.kind else {
             unreachable!()
         };
-        let span = stock.pages.take(w, w)?;
-        if w == 64 {
+        stock.pages.take(w, al)
+    }
+
+    // Makes a region of a run that is out of the free pages.
+    pub(crate) fn fit(&mut self, run: Span) -> AnyRegion
+        requires { MayFit self.old run }
+        ensures { (x : Site) (p : profile) (q : place) (k : Kept) → Stands self.old x p place_is.Pages k → IsTrue (is_magazine q) → IsTrue (is_length_of q (run_of_span run).pages) → IsFitted q run result × Stands self.new x p place_is.Pages (with_region_for q k) }
+    {
+        let Kind::Pages(stock) = &mut self.kind else {
+            unreachable!()
+        };
+        if run.len() / PAGE == 64 {
             match stock.tiny.pop() {
-                Some(blank) => Some(AnyRegion::Tiny(blank.fit(span))),
+                Some(blank) => AnyRegion::Tiny(blank.fit(run)),
                 None => unreachable!(),
             }
         } else {
             match stock.small.pop() {
-                Some(blank) => Some(AnyRegion::Small(blank.fit(span))),
+                Some(blank) => AnyRegion::Small(blank.fit(run)),
                 None => unreachable!(),
             }
+        }
+    }
+
+    // Makes the cached run that fits `w` pages best a block of large, or answers None where none fits.
+    pub(crate) fn reuse(&mut self, w: u64) -> Option<Span>
+        ensures { (x : Site) (p : profile) (z : ℕ) (k : Kept) → Stands self.old x p (place_is.Large z) k → Reused x k w (Stands self.new x p (place_is.Large z)) result }
+    {
+        match &mut self.kind {
+            Kind::Large(large) => large.reuse(w),
+            Kind::Pages(_) | Kind::Tiny(_) | Kind::Small(_) => None,
+        }
+    }
+
+    // Makes a run that comes from the free pages a block of large.
+    pub(crate) fn enter(&mut self, run: &Span)
+        requires { MayEnter self.old run.now }
+        ensures { (x : Site) (p : profile) (z : ℕ) (k : Kept) → Stands self.old x p (place_is.Large z) k → Stands self.new x p (place_is.Large z) (with_block (block_of run.now) (with_run (run_of_span run.now) k)) }
+    {
+        match &mut self.kind {
+            Kind::Large(large) => large.enter(run),
+            Kind::Pages(_) | Kind::Tiny(_) | Kind::Small(_) => unreachable!(),
         }
     }
 
@@ -266,18 +299,25 @@ impl Keeper {
         stock.pages.back(run);
     }
 
-    // Takes a live block of a magazine or a depot back.
-    pub(crate) fn free(&mut self, span: Span)
+    // Takes a live block back. Where large caches 17 runs then, the one that was cached first comes out.
+    pub(crate) fn free(&mut self, span: Span) -> Option<Span>
         requires { MayFree self.old span }
-        ensures { (x : Site) (p : profile) (q : place) (k : Kept) → Stands self.old x p q k → IsTrue (is_magazine q || is_depot q) → Stands self.new x p q (without_block q (block_at span.first (length span.bytes)) k) }
+        ensures { (x : Site) (p : profile) (q : place) (k : Kept) → Stands self.old x p q k → IsTrue (has_blocks q) → span.space ≡ x → PushedOut x q (without_block q (block_at span.first (length span.bytes)) k) (Stands self.new x p q) result }
     {
-        let freed = match &mut self.kind {
-            Kind::Tiny(shelf) => shelf.magazine.free(span),
-            Kind::Small(shelf) => shelf.magazine.free(span),
-            Kind::Pages(_) | Kind::Large(_) => Err(span),
-        };
-        if freed.is_err() {
-            unreachable!()
+        match &mut self.kind {
+            Kind::Tiny(shelf) => match shelf.magazine.free(span) {
+                Ok(()) => None,
+                Err(_) => unreachable!(),
+            },
+            Kind::Small(shelf) => match shelf.magazine.free(span) {
+                Ok(()) => None,
+                Err(_) => unreachable!(),
+            },
+            Kind::Large(large) => match large.free(span) {
+                Ok(pushed) => pushed,
+                Err(_) => unreachable!(),
+            },
+            Kind::Pages(_) => unreachable!(),
         }
     }
 
@@ -335,6 +375,19 @@ impl Keeper {
                 }
                 Err(_) => unreachable!(),
             },
+        }
+    }
+
+    // Gives a live block of a magazine or a depot `n` bytes where it is. It answers false, and nothing changes, where the
+    // block would grow and the place has no room for that.
+    pub(crate) fn resize(&mut self, span: &mut Span, n: u64) -> bool
+        requires { MayResize self.old span.old n }
+        ensures { (x : Site) (p : profile) (q : place) (k : Kept) → Stands self.old x p q k → IsTrue (is_magazine q || is_depot q) → IsTrue (is_size_of q n) → Refits k span.old n (Stands self.new x p q) result span.new }
+    {
+        match &mut self.kind {
+            Kind::Tiny(shelf) => shelf.magazine.resize(span, n / 16),
+            Kind::Small(shelf) => shelf.magazine.resize(span, n / 512),
+            Kind::Pages(_) | Kind::Large(_) => false,
         }
     }
 }

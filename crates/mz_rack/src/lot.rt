@@ -12,7 +12,7 @@ use std::marker::Model;
 #[derive(Drop)]
 pub struct Lot {
     zone: u32,
-    span: Span,
+    pub(crate) span: Span,
 }
 
 impl Model for Lot {
@@ -93,6 +93,15 @@ pub enum Null {
         cache: u64,
         pages: u64,
     },
+}
+
+impl Null {
+    /// The number of its kind among the refusals.
+    pub fn number(&self) -> u8
+        ensures { result ≡ 1 }
+    {
+        1
+    }
 }
 
 /// That a block is of another zone: the lot, as it was handed in, and the ticket of the entry that says so.

@@ -1,19 +1,23 @@
 //! A zone's requests.
-ghost use Rattle.std.specs.Prelude.{◌≡◌, ◌<◌, ◌≤◌, length, IfOk};
+ghost use Rattle.std.specs.Prelude.{◌≡◌, ◌<◌, ◌≤◌, IfOk};
 ghost use Rattle.std.specs.Int.{IsPowerOfTwo};
 ghost use Rattle.mz_base.specs.Limits.{IsWithinLimits, IsFrom};
 ghost use Rattle.mz_base.specs.Codes.{limits_once};
 ghost use Rattle.mz_rack.specs.Serving.{CanServe, Answers};
 ghost use Rattle.mz_rack.specs.Freeing.{IsFreeable, Frees};
+ghost use Rattle.mz_rack.specs.Resizing.{Resizes};
 
 use crate::free::{deny, end_block};
 use crate::home::find_home;
 use crate::keeper::Keeper;
+use crate::large::serve_large;
 use crate::laws::of_books;
 use crate::lot::{Lot, NotLive, Null};
+use crate::resize::{resize_at_home, stays};
 use crate::serve::serve;
-use crate::way::find_way;
-use mz_base::{Profile, route, unit, units};
+use crate::way::{find_large_way, find_way};
+use mz_base::laws::good_size_is_least;
+use mz_base::{Profile, Range, route, unit, units};
 use mz_book::Book;
 use mz_events::laws::entries::states_split;
 use mz_record::laws::moments;
@@ -40,13 +44,13 @@ impl Rack {
         Ok(Rack { profile: *p, zone })
     }
 
-    /// A block for a request of `n` bytes at the alignment `al`, a power of two from 16 to 16,384. It comes from the
-    /// caller's magazine; or from the lowest region of the depot with room, which moves to the magazine; or from a
-    /// fresh region, for which the zone's cached large runs go back to the pages, the one cached first before the others, as
-    /// long as these have no run for it. `Null` comes only where the magazine and the depot have no room, the pages have no
-    /// run for a region, and nothing is cached.
+    /// A block for a request of `n` bytes at the alignment `al`, a power of two from 16 to 16,384.
     ///
-    /// Until there are large blocks `n` is at most 32,768.
+    /// Tiny and small come from the caller's magazine; or from the lowest region of the depot with room, which moves to the
+    /// magazine; or from a fresh region. Large is the cached run that fits best, or a fresh run.
+    ///
+    /// Where the pages have no run for a fresh one, the zone's cached large runs go back to them, the one cached first before
+    /// the others, as long as that is so. `Null` comes only where they have none still, and nothing is cached.
     pub fn alloc<B: Book<Keeper>, R: Wait>(
         &self,
         rt: &R,
@@ -55,7 +59,6 @@ impl Rack {
         al: u64,
     ) -> Result<Lot, Null>
         requires can { CanServe (B.account book.old) self.now.profile self.now.zone 36 }
-        requires small { n ≤ 32768 }
         requires power { IsPowerOfTwo al }
         requires range { IsFrom 16 16384 al }
         ensures { Answers (B.account book.old) self.now.zone n al result (B.account book.new) }
@@ -63,9 +66,14 @@ impl Rack {
         of_books();
         states_split();
         moments();
-        let way = find_way(&self.profile, self.zone, book.caller(), n);
-        let size = units(n) * unit(route(n));
-        match serve(rt, book, &way, size, al) {
+        let served = if route(n) == Range::Large {
+            let way = find_large_way(&self.profile, self.zone);
+            serve_large(rt, book, &way, units(n), al)
+        } else {
+            let way = find_way(&self.profile, self.zone, book.caller(), n);
+            serve(rt, book, &way, units(n) * unit(route(n)), al)
+        };
+        match served {
             Ok(span) => Ok(Lot::new(self.zone, span)),
             Err(null) => Err(null),
         }
@@ -73,12 +81,11 @@ impl Rack {
 
     /// Ends a block of the rack's zone, in the place where it lives. A magazine that is left in excess gives its
     /// lowest sparse region to the depot, and a region of the depot that is left without live blocks goes back to the
-    /// pages, each at once. `NotLive` comes exactly where the lot is of another zone, and hands it back.
+    /// pages, each at once. The run of a large block is cached; where that makes 17, the one cached first goes back to
+    /// the pages. `NotLive` comes exactly where the lot is of another zone, and hands it back.
     ///
     /// The block is looked for in one place after another. Meanwhile others may move its region, and then
     /// the search begins again; between rounds it is found in the first.
-    ///
-    /// Until there are large blocks the lot has at most 32,768 bytes.
     pub fn free<B: Book<Keeper>, R: Wait>(
         &self,
         rt: &R,
@@ -87,7 +94,6 @@ impl Rack {
     ) -> Result<(), NotLive>
         requires can { CanServe (B.account book.old) self.now.profile self.now.zone 3 }
         requires lot { IsFreeable (B.account book.old) lot }
-        requires small { length lot.span.bytes ≤ 32768 }
         ensures { Frees (B.account book.old) self.now.zone lot result (B.account book.new) }
     {
         of_books();
@@ -101,5 +107,41 @@ impl Rack {
             let ticket = deny(book, home, self.zone, &lot);
             Err(NotLive { lot, ticket })
         }
+    }
+
+    /// Gives a block of the rack's zone the size for `n` bytes where it is. It answers false, and nothing changes, exactly
+    /// where the block would have to move: to another range; a large one, that is too small or would waste as much as it
+    /// needs; a tiny or small one, where a quantum that it needs behind it is outside the region or in a live block. One that
+    /// has that size already stays, and so does a large one otherwise.
+    ///
+    /// A tiny or small block that is to have another size is looked for as by `free`, in one place after another.
+    pub fn resize<B: Book<Keeper>, R: Wait>(
+        &self,
+        rt: &R,
+        book: &mut B,
+        lot: &mut Lot,
+        n: u64,
+    ) -> bool
+        requires can { CanServe (B.account book.old) self.now.profile self.now.zone 1 }
+        requires lot { IsFreeable (B.account book.old) lot.old }
+        requires of_zone { lot.old.zone ≡ self.now.zone }
+        requires some { 1 ≤ n }
+        ensures { Resizes (B.account book.old) lot.old n result (B.account book.new) lot.new }
+    {
+        of_books();
+        moments();
+        good_size_is_least();
+        let (s, range) = (lot.size(), route(n));
+        if route(s) != range {
+            return false;
+        }
+        if range == Range::Large {
+            return stays(s, n);
+        }
+        let size = units(n) * unit(range);
+        if size == s {
+            return true;
+        }
+        resize_at_home(rt, book, &self.profile, lot, size)
     }
 }

@@ -179,8 +179,9 @@ fn from_pages<B: Book<Keeper>, R: Wait>(
     of_books();
     let mut large = book.hold(rt, w.l);
     let mut pages = book.hold(rt, w.p);
-    match seek(book, w, &mut large, &mut pages) {
-        Ok(region) => {
+    match seek(book, w.zone, &mut large, &mut pages, w.pages, w.pages) {
+        Ok(run) => {
+            let region = pages.fit(run);
             let span = make_fresh(book, w, &mut magazine, region, n, al);
             let_go(book, w, magazine, depot, large, pages);
             Ok(span)

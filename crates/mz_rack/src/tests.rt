@@ -14,6 +14,8 @@ use std::sync::Wait;
 use std::test::Fail;
 
 mod freeing;
+mod large;
+mod resizing;
 mod zones;
 
 const TINY: Place = Place::Tiny { zone: 0, mag: 0 };
@@ -23,6 +25,8 @@ const TINY_DEPOT: Place = Place::TinyDepot { zone: 0 };
 const SMALL: Place = Place::Small { zone: 0, mag: 0 };
 
 const SMALL_DEPOT: Place = Place::SmallDepot { zone: 0 };
+
+const LARGE: Place = Place::Large { zone: 0 };
 
 // A book of all keepers of the pages below nano's, in which nothing was noted yet.
 fn book_of(alloc: Global, p: &Profile) -> Result<PlainBook<Keeper>, AllocError>
@@ -67,7 +71,6 @@ fn ask<R: Wait>(
 ) -> Result<Result<Lot, Null>, AllocError>
     requires can { CanServe (⟦<PlainBook<Keeper> as Book<Keeper>>⟧.account book.old) rack.now.profile rack.now.zone 0 }
     requires caller { caller < rack.now.profile.callers }
-    requires small { n ≤ 32768 }
     requires power { IsPowerOfTwo al }
     requires range { IsFrom 16 16384 al }
     ensures { (z : ℕ) → CanServe (⟦<PlainBook<Keeper> as Book<Keeper>>⟧.account book.old) rack.now.profile z 0 → CanServe (⟦<PlainBook<Keeper> as Book<Keeper>>⟧.account book.new) rack.now.profile z 0 }
@@ -87,7 +90,6 @@ fn ask_often<R: Wait>(
 ) -> Result<bool, AllocError>
     requires can { CanServe (⟦<PlainBook<Keeper> as Book<Keeper>>⟧.account book.old) rack.now.profile rack.now.zone 0 }
     requires caller { 0 < rack.now.profile.callers }
-    requires small { n ≤ 32768 }
     ensures { CanServe (⟦<PlainBook<Keeper> as Book<Keeper>>⟧.account book.new) rack.now.profile rack.now.zone 0 }
 {
     let mut each = true;
@@ -173,9 +175,10 @@ const FIRST_REQUESTS: [Event; 8] = [
 ];
 
 #[test]
-fn keepers_and_lots_go_from_thread_to_thread() {
+fn keepers_lots_and_racks_go_from_thread_to_thread() {
     is_send_and_sync::<Keeper>();
     is_send_and_sync::<Lot>();
+    is_send_and_sync::<Rack>();
 }
 
 #[test]

@@ -3,6 +3,7 @@ ghost use Rattle.std.specs.Prelude.{◌≡◌, ◌+◌, ◌*◌, ◌<◌, ◌≤
 ghost use Rattle.mz_base.specs.Limits.{IsWithinLimits};
 ghost use Rattle.mz_book.specs.Keepers.{zone_keepers};
 ghost use Rattle.mz_rack.specs.Ways.{IsWayFor};
+ghost use Rattle.mz_rack.specs.LargeStages.{IsLargeWay};
 
 use mz_base::laws::good_size_is_least;
 use mz_base::{Profile, Range, route};
@@ -58,6 +59,28 @@ pub(crate) fn find_way(p: &Profile, zone: u32, caller: u32, n: u64) -> Way
             l: first + 2 * m + 2,
             p: pages,
         }
+    }
+}
+
+/// Large of a zone and the free pages, which serve large requests, by the numbers of their keepers.
+#[derive(Clone, Copy, Debug, PartialEq, Eq)]
+pub(crate) struct LargeWay {
+    pub(crate) zone: u32,
+    pub(crate) l: usize,
+    pub(crate) p: usize,
+}
+
+/// The way of large requests in a zone.
+pub(crate) fn find_large_way(p: &Profile, zone: u32) -> LargeWay
+    requires limits { IsWithinLimits p.now }
+    requires zone { zone < p.now.zones }
+    ensures way { IsLargeWay p.now result }
+    ensures in_zone { result.zone ≡ zone }
+{
+    LargeWay {
+        zone,
+        l: first_of(p, zone) + 2 * p.magazines as usize + 2,
+        p: first_of(p, p.zones),
     }
 }
 

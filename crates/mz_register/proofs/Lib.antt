@@ -7,3 +7,11 @@ mod PassLemmas
 mod OpenLemmas
 mod WordLemmas
 mod FirstLemmas
+mod MergeLemmas
+mod CountLemmas
+mod JoinLemmas
+mod HandInLemmas
+mod WriteLemmas
+mod FitLemmas
+mod AtEnd
+mod ToyLemmas

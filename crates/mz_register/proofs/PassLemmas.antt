@@ -19,7 +19,7 @@ use Rattle.mz_book.specs.Lights.{light_at, light_number, add_light}
 use Rattle.mz_book.specs.Keepers.{keeper_count}
 use Rattle.mz_book.specs.Calls.{CanHold, without}
 use Rattle.mz_desk.specs.declared.view.View.{View}
-use Rattle.mz_desk.specs.declared.view.Clash.{Clash}
+use Rattle.mz_book.specs.declared.light.Clash.{Clash}
 use Rattle.mz_desk.specs.declared.view.Win.{Win}
 use Rattle.mz_desk.specs.Views.{locked, looked, drawn, freed, knowing, unlit}
 use Rattle.mz_desk.specs.Needs.{CanLock}

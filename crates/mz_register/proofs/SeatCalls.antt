@@ -3,7 +3,7 @@ use Rattle.std.proofs.Common.{◌≡◌, ℕ, ◌+◌, List, arith, sym, ap, ◌
 use mathlib.Core.Option.{none}
 use Rattle.atomic_table.specs.Table.{step}
 use Rattle.mz_events.specs.Standing.{Keeping}
-use Rattle.mz_desk.specs.declared.view.Clash.{Clash}
+use Rattle.mz_book.specs.declared.light.Clash.{Clash}
 use Rattle.mz_desk.specs.Views.{locked}
 use Rattle.mz_desk.specs.Needs.{Seated}
 use Rattle.mz_desk.specs.Steps.{Knows, TriesLock}

@@ -1,6 +1,9 @@
--- The account of a pass. This project's own.
-use Rattle.std.specs.Prelude.{ℕ, ◌-◌, ◌∷◌, length}
+-- The account of a pass, and its exchanges. This project's own.
+use Rattle.std.specs.Prelude.{◌≡◌, ◌≢◌, ℕ, ◌+◌, ◌-◌, ◌≤◌, ◌∷◌, length}
 use Rattle.mz_book.specs.Account.{Account}
+use Rattle.mz_book.specs.Exchanges.{Exchanges, Clashes}
+use Rattle.mz_desk.specs.declared.view.View.{View}
+use Rattle.mz_desk.specs.Words.{lock_place}
 use Rattle.mz_desk.specs.Views.{view_account}
 use Rattle.mz_register.specs.declared.pass.Pass.{Pass}
 use Rattle.mz_register.specs.Passes.{table_numbers}
@@ -12,3 +15,18 @@ pass_account p = view_account p.seat.me.0 (table_numbers p.seat.table_id) (p.lim
 -- the account of a desk, whose name is also the borrow of the pass
 abbrev pub at_desk : ℕ → Account → Account
 at_desk borrow s = record s { name = borrow ∷ s.name }
+
+abbrev pub exchanges_of : View → Exchanges
+exchanges_of v = record { wins = length v.wins; clashes = v.clashes }
+
+-- the exchanges of a pass are those of its seat
+abbrev pub pass_exchanges : {V : Type 0} → Pass V → Exchanges
+pass_exchanges p = exchanges_of p.seat.me.0
+
+-- The lock of the keeper k shows another caller, as an exchange found. That changed nothing else.
+pub record FindsTaken (s : Account) (e : Exchanges) (k word : ℕ) (t : Account) (e' : Exchanges) : Type 0 where
+  pub some : 1 ≤ word
+  pub most : word ≤ s.profile.callers
+  pub other : word ≢ s.caller + 1
+  pub clash : Clashes s e (lock_place k) 0 word e'
+  pub same : t ≡ s

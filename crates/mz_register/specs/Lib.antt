@@ -4,3 +4,6 @@ pub mod Passes
 pub mod Accounts
 pub mod Orderly
 pub mod Opened
+pub mod Merged
+pub mod HandIn
+pub mod Toys

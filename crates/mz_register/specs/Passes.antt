@@ -6,6 +6,7 @@ use Rattle.atomic_table.specs.Seated.{TableId}
 use Rattle.mz_base.specs.declared.profile.Profile.{Profile}
 use Rattle.mz_base.specs.Limits.{IsWithinLimits}
 use Rattle.mz_base.specs.Codes.{limits_once}
+use Rattle.mz_base.specs.Site.{Site}
 use Rattle.mz_base.specs.Space.{Block}
 use Rattle.mz_events.specs.declared.entry.Entry.{Entry}
 use Rattle.mz_events.specs.State.{opening}
@@ -23,6 +24,10 @@ use Rattle.mz_register.specs.Codes.{entries_code}
 -- which table it is, as numbers
 abbrev pub table_numbers : TableId → List ℕ
 table_numbers z = z.words ∷ z.slots ∷ z.views_name ∷ z.atom ∷ z.block ∷ z.offset ∷ z.slot_names
+
+-- a space, as numbers
+abbrev pub site_numbers : Site → List ℕ
+site_numbers x = x.name ∷ x.block ∷ x.origin ∷ x.size ∷ []
 
 -- the account is one of a pass of the register on this table, of this profile
 pub record IsOf (z : TableId) (p : Profile) (s : Account) : Type 0 where

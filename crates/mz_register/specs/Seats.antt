@@ -10,7 +10,7 @@ use Rattle.mz_events.specs.Holding.{AreAway}
 use Rattle.mz_events.specs.Standing.{Keeping, Stands}
 use Rattle.mz_book.specs.Keepers.{place_at, keeper_spot, is_among, is_held}
 use Rattle.mz_desk.specs.declared.view.View.{View}
-use Rattle.mz_desk.specs.declared.view.Clash.{Clash}
+use Rattle.mz_book.specs.declared.light.Clash.{Clash}
 use Rattle.mz_desk.specs.Views.{site_at, locked, looked, clashed}
 use Rattle.mz_desk.specs.Needs.{Seated, IsIdle}
 use Rattle.mz_desk.specs.Steps.{Knows}
@@ -63,6 +63,7 @@ pub record Gets {V : Type 0} (keeping : V → Keeping) (me : Seated V) (k : ℕ)
 -- the lock of k was tried in vain: its word was another seat's
 pub record Misses {V : Type 0} (me : Seated V) (k word : ℕ) (me' : Seated V) : Type 0 where
   pub some : 1 ≤ word
+  pub most : word ≤ me.0.profile.callers
   pub other : word ≢ me.0.caller + 1
   pub view : me'.0 ≡ clashed me.0 (k + 1) 0 word
   pub carried : me'.1 ≡ me.1

@@ -1,10 +1,11 @@
 //! What a caller does with its pass.
-ghost use Rattle.std.specs.Prelude.{◌≡◌, ◌≢◌, ◌+◌, ◌≤◌, length, take, drop, ◌++◌, IfOk, IfErr};
+ghost use Rattle.std.specs.Prelude.{◌≡◌, ◌≤◌, length, take, drop, ◌++◌, IfOk, IfErr};
 ghost use Rattle.mz_events.specs.Changes.{one_for};
 ghost use Rattle.mz_book.specs.Account.{StandsFor};
 ghost use Rattle.mz_book.specs.Calls.{CanHold, Gains, Holds, CanNote, Notes, CanRelease, Releases, CanSettle, Settles, CanHoldLight, HoldsLight, CanReleaseLight, ReleasesLight};
+ghost use Rattle.mz_book.specs.Exchanges.{class_place, slot_place, Clashes};
 ghost use Rattle.mz_register.specs.Passes.{IsOf};
-ghost use Rattle.mz_register.specs.Accounts.{pass_account};
+ghost use Rattle.mz_register.specs.Accounts.{pass_account, pass_exchanges, FindsTaken};
 
 use crate::find::find;
 use crate::pass::{Pass, Taken};
@@ -57,7 +58,7 @@ impl<V: Keep + Drop> Pass<V> {
         requires can { CanHold (pass_account self.old) k }
         ensures table { self.new.seat.table_id ≡ self.old.seat.table_id }
         ensures gains { IfOk result (λ v. Gains (pass_account self.old) k (pass_account self.old).holds (pass_account self.new) × StandsFor (pass_account self.new) k (V.keeping v)) }
-        ensures taken { IfErr result (λ t. (1 ≤ t.word) × (t.word ≢ (pass_account self.old).caller + 1) × (pass_account self.new ≡ pass_account self.old)) }
+        ensures taken { IfErr result (λ t. FindsTaken (pass_account self.old) (pass_exchanges self.old) k t.word (pass_account self.new) (pass_exchanges self.new)) }
     {
         of_histories();
         match register.try_hold_once(&mut self.seat, self.caller, k) {
@@ -106,6 +107,7 @@ impl<V: Keep + Drop> Pass<V> {
         requires can { CanSettle (pass_account self.old) b class }
         ensures table { self.new.seat.table_id ≡ self.old.seat.table_id }
         ensures settles { Settles (pass_account self.old) b class result (pass_account self.new) }
+        ensures clash { IfErr result (λ f. Clashes (pass_account self.old) (pass_exchanges self.old) (class_place (pass_account self.old).profile b) 0 f.word (pass_exchanges self.new)) }
     {
         let word = register.try_class(&mut self.seat, b, class);
         if word == 0 || word == class {
@@ -127,6 +129,7 @@ impl<V: Keep + Drop> Pass<V> {
         requires can { CanHoldLight (pass_account self.old) b j expect }
         ensures table { self.new.seat.table_id ≡ self.old.seat.table_id }
         ensures holds { HoldsLight (pass_account self.old) b j expect result (pass_account self.new) }
+        ensures clash { IfErr result (λ f. Clashes (pass_account self.old) (pass_exchanges self.old) (slot_place (pass_account self.old).profile b j) expect f.word (pass_exchanges self.new)) }
     {
         lights_are_of_slots();
         let word = register.try_light(&mut self.seat, self.caller, b, j, expect);

@@ -1,9 +1,9 @@
 //! The desk, at which a pass is a book.
-ghost use Rattle.std.specs.Prelude.{◌≡◌, ◌≢◌, ◌+◌, ◌≤◌, IfOk, IfErr};
+ghost use Rattle.std.specs.Prelude.{◌≡◌, IfOk, IfErr};
 ghost use Rattle.mz_book.specs.Account.{StandsFor};
 ghost use Rattle.mz_book.specs.Calls.{CanHold, Gains};
 ghost use Rattle.mz_register.specs.Passes.{IsOf};
-ghost use Rattle.mz_register.specs.Accounts.{pass_account, at_desk};
+ghost use Rattle.mz_register.specs.Accounts.{pass_account, at_desk, pass_exchanges, FindsTaken};
 
 use crate::pass::{Pass, Taken};
 use crate::register::Register;
@@ -21,10 +21,12 @@ pub struct Desk<'a, V: Keep + Drop> {
 }
 
 impl<'a, V: Keep + Drop> Book<V> for Desk<'a, V> {
-    ghost use Rattle.mz_register.specs.Accounts.{pass_account, at_desk};
+    ghost use Rattle.mz_register.specs.Accounts.{pass_account, at_desk, pass_exchanges};
     ghost use Rattle.mz_register.specs.Orderly.{orderly, orderly_at};
 
     ghost account = { λ d. at_desk d.pass.ghost_name (pass_account d.pass.now) };
+
+    ghost exchanges = { λ d. pass_exchanges d.pass.now };
 
     fn caller(&self) -> u32 {
         self.pass.caller()
@@ -87,7 +89,7 @@ impl<V: Keep + Drop> Register<V> {
         requires of { IsOf self.now.table.shared.table_id self.now.opening.profile (pass_account pass.old) }
         requires can { CanHold (pass_account pass.old) k }
         ensures gains { IfOk result (λ v. Gains (pass_account pass.old) k (pass_account pass.old).holds (pass_account pass.new) × StandsFor (pass_account pass.new) k (V.keeping v)) }
-        ensures taken { IfErr result (λ t. (1 ≤ t.word) × (t.word ≢ (pass_account pass.old).caller + 1) × (pass_account pass.new ≡ pass_account pass.old)) }
+        ensures taken { IfErr result (λ t. FindsTaken (pass_account pass.old) (pass_exchanges pass.old) k t.word (pass_account pass.new) (pass_exchanges pass.new)) }
     {
         pass.try_hold(self, k)
     }

@@ -8,6 +8,9 @@
 //! - `find`: where a number stands.
 //! - `desk`: `Desk`, at which a pass is a book.
 //! - `open`: a plain book is taken apart into a register and a pass for each caller.
+//! - `records`: records are put together by ticket.
+//! - `hand_in`: all passes come in, and the register is a plain book again.
+//! - `shared`: what of a register may be shared, and that a pass may move.
 //!
 //! ```text
 //! words    | counter | lock of 0 | lock of 1 | .. | class of block 0 | .. | slot (0, 0) | slot (0, 1) | ..
@@ -28,11 +31,16 @@
 mod calls;
 pub mod desk;
 mod find;
+pub mod hand_in;
 mod hold;
 pub mod open;
 pub mod pass;
+mod records;
 pub mod register;
+pub mod shared;
 mod steps;
+#[cfg(test)]
+mod tests;
 
 pub use desk::Desk;
 pub use mz_book::{Asked, Book, Found, Light, Pair, PlainBook};

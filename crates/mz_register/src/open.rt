@@ -5,10 +5,11 @@ ghost use Rattle.mz_book.specs.Account.{HoldsNothing};
 ghost use Rattle.mz_book.specs.Keepers.{keeper_count};
 ghost use Rattle.mz_book.specs.Parts.{account_in, FitTogether};
 ghost use Rattle.mz_desk.specs.Keys.{opened_as};
+ghost use Rattle.mz_register.specs.HandIn.{former, unspared};
 ghost use Rattle.mz_register.specs.Opened.{IsOpened, IsNew, IsFirst, AreDealt, IsBlank, AreBlank};
 
 use crate::pass::Pass;
-use crate::register::Register;
+use crate::register::{Register, Rest};
 use atomic_table::{Refused, Table};
 use mz_book::{Book, Parts, PlainBook};
 use mz_desk::law::GiveSeat;
@@ -95,6 +96,7 @@ impl<V: Keep + Drop> Register<V> {
     fn of_parts(alloc: Global, parts: Parts<V>) -> Result<(Register<V>, Vec<Pass<V>>), Parts<V>>
         requires { FitTogether V.keeping parts }
         ensures ok { IfOk result (λ r. IsOpened (account_in V.keeping parts) r.0.table.shared.table_id r.0.opening.profile r.1.items) }
+        ensures former { IfOk result (λ r. former V.keeping r.0 ≡ unspared (account_in V.keeping parts)) }
         ensures err { IfErr result (λ q. FitTogether V.keeping q × (account_in V.keeping q ≡ account_in V.keeping parts)) }
     {
         seats::open::<V>();
@@ -136,6 +138,14 @@ impl<V: Keep + Drop> Register<V> {
                     table,
                     opening,
                     keepers,
+                    rest: Rest {
+                        caller,
+                        classes,
+                        slots: lights,
+                        holds,
+                        founds,
+                        found,
+                    },
                 };
                 let first = Pass {
                     caller: 0,
@@ -184,6 +194,7 @@ impl<V: Keep + Drop> Register<V> {
     ) -> Result<(Register<V>, Vec<Pass<V>>), PlainBook<V>>
         requires { HoldsNothing (⟦<PlainBook<V> as Book<V>>⟧.account book) }
         ensures ok { IfOk result (λ r. IsOpened (⟦<PlainBook<V> as Book<V>>⟧.account book) r.0.table.shared.table_id r.0.opening.profile r.1.items) }
+        ensures former { IfOk result (λ r. former V.keeping r.0 ≡ unspared (⟦<PlainBook<V> as Book<V>>⟧.account book)) }
         ensures err { IfErr result (λ b. ⟦<PlainBook<V> as Book<V>>⟧.account b ≡ ⟦<PlainBook<V> as Book<V>>⟧.account book) }
     {
         match Register::of_parts(alloc, book.into_parts()) {

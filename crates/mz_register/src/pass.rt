@@ -73,4 +73,21 @@ impl<V> Pass<V> {
         }
         Ok(())
     }
+
+    // The record, the numbers of the keepers that are held, and the seat.
+    pub(crate) fn into_record(self) -> (Vec<Entry>, Vec<usize>, Seat<Option<V>, View>)
+        ensures { result ≡ (self.noted, self.held, self.seat) }
+    {
+        let Pass {
+            caller: _,
+            noted,
+            limit: _,
+            held,
+            holds: _,
+            founds: _,
+            found: _,
+            seat,
+        } = self;
+        (noted, held, seat)
+    }
 }

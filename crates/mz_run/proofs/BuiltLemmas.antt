@@ -53,9 +53,8 @@ built_rounds (r ∷ rs) lists all =
 -- the numbers of a space that is built
 pub built_numbers : (p : Profile) → is_built_space p ≡ true → IsForOne p
 built_numbers p built =
-    let last = and_parts ((p.callers == 1) && (p.nano == 0)) (p.zones == 1) built in
-    let first = and_parts (p.callers == 1) (p.nano == 0) last.0 in
-    record { callers = eqb-true p.callers 1 first.0; nano = eqb-true p.nano 0 first.1; zones = eqb-true p.zones 1 last.1 }
+    let both = and_parts (p.callers == 1) (p.zones == 1) built in
+    record { callers = eqb-true p.callers 1 both.0; zones = eqb-true p.zones 1 both.1 }
 
 -- each round of a trace that is built
 pub rounds_built : (t : Trace) → IsBuilt t → IsTrue (list_all is_built_round t.rounds)

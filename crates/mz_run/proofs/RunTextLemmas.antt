@@ -24,7 +24,7 @@ use Rattle.mz_lines.specs.Commands.{command_fits}
 use Rattle.mz_lines.specs.Lines.{command_gives, line_fits}
 use Rattle.mz_trace.specs.Rounds.{call_line, round_lines, lines_of_rounds}
 use Rattle.mz_trace.specs.RunTexts.{round_of}
-use Rattle.mz_trace.specs.RunForms.{step_fits, call_record_fits, round_fits, IsRun}
+use Rattle.mz_trace.specs.RunForms.{entry_fits, call_record_fits, round_fits, IsRun}
 use Rattle.mz_lines.specs.Answers.{answer_fits}
 use Rattle.mz_trace.specs.Texts.{IsTrace}
 use Rattle.mz_session.specs.Sessions.{SessionView}
@@ -69,7 +69,7 @@ record_fits [] commands tells = refl
 record_fits (d ∷ ds) commands tells =
     let c = and_parts (command_fits 1 d.command) (list_all (λ x. command_fits 1 x.command) ds) commands in
     let t = and_parts (is_told d) (list_all is_told ds) tells in
-    let parts = and_parts (list_all step_fits d.steps) (answer_fits d.answer) t.0 in
+    let parts = and_parts (list_all entry_fits d.steps) (answer_fits d.answer) t.0 in
     and_from (call_record_fits 1 d) (list_all (call_record_fits 1) ds) (and_from _ _ (and_from _ _ c.0 parts.0) parts.1) (record_fits ds c.1 t.1)
 
 rounds_fit : (lists : List (List CallRecord)) → list_all (line_fits 1) (lines_of_rounds (map round_of (map round_with lists))) ≡ true → list_all is_told (joined lists) ≡ true

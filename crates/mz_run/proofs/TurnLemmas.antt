@@ -6,7 +6,7 @@ use Rattle.std.proofs.lemmas.List.{map-append, take_more, take_all}
 use Rattle.mz_events.specs.declared.entry.Entry.{Entry}
 use Rattle.mz_lines.specs.declared.answer.Answer.{Answer}
 use Rattle.mz_lines.specs.declared.command.Command.{Command}
-use Rattle.mz_trace.specs.declared.run.Step.{Step}
+use Rattle.mz_trace.specs.declared.run.RunEntry.{RunEntry}
 use Rattle.mz_trace.specs.declared.run.CallRecord.{CallRecord}
 use Rattle.mz_trace.specs.declared.run.RunRound.{RunRound}
 use Rattle.mz_session.specs.Sessions.{SessionView, Serves}
@@ -14,7 +14,7 @@ use Rattle.mz_run.specs.Built.{is_built_command}
 use Rattle.mz_run.specs.Turns.{is_told, step_of, Turn, Turns, RoundTurns, RoundsTurn}
 
 -- a command that was served, with what is told of it
-pub turn_made : (s t : SessionView) (command : Command) (a b : Answer) (steps : List Step) → IsTrue (is_built_command command) → a ≡ b → (served : Serves s command b t) → steps ≡ map step_of served.entries
+pub turn_made : (s t : SessionView) (command : Command) (a b : Answer) (steps : List RunEntry) → IsTrue (is_built_command command) → a ≡ b → (served : Serves s command b t) → steps ≡ map step_of served.entries
     → is_told (record { command = command; steps = steps; answer = a }) ≡ true → Turn s (record { command = command; steps = steps; answer = a }) t
 turn_made s t command a b steps built same served are told =
     let made : is_told (record { command = command; steps = steps; answer = b }) ≡ true → Turn s (record { command = command; steps = steps; answer = b }) t =

@@ -1,11 +1,11 @@
--- What the program runs today: one caller, no nano, one zone, and the commands `malloc` of what regions serve, `free`, `fill`,
--- `show` and `link`. This project's own.
-use Rattle.std.specs.Prelude.{ℕ, ◌+◌, ◌==◌, ◌≡◌, Bool, true, false, nat_le, ◌&&◌, not, List, length, position, Option, Some, IsTrue, if◌then◌else◌}
+-- What the program runs today: one caller, one zone, and the commands `malloc`, `free`, `fill`, `show` and `link`. This
+-- project's own.
+use Rattle.std.specs.Prelude.{ℕ, ◌+◌, ◌==◌, ◌≡◌, Bool, true, false, ◌&&◌, not, List, length, position, Option, Some, IsTrue, if◌then◌else◌}
 use Rattle.std.specs.List.{list_all}
 use Rattle.std.specs.Option.{option_map}
 use Rattle.mz_base.specs.declared.profile.Profile.{Profile}
 use Rattle.mz_lines.specs.declared.command.Command.{Command}
-use Rattle.mz_lines.specs.declared.command.Command.TheVariants.{Malloc, Free, Fill, Show, Link}
+use Rattle.mz_lines.specs.declared.command.Command.TheVariants.{Malloc, Calloc, Valloc, Memalign, Realloc, Free, FreeAt, ZoneFree, SizedFree, Size, Fill, Show, Link, Give, Batch, Unbatch, Use}
 use Rattle.mz_trace.specs.declared.round.Round.{Round}
 use Rattle.mz_trace.specs.declared.trace.Trace.{Trace}
 use Rattle.mz_lines.specs.declared.line.Line.{Line}
@@ -15,16 +15,27 @@ use Rattle.mz_trace.specs.Texts.{IsTraceText, lines_of}
 
 -- a space within the limits that has these numbers
 abbrev pub is_built_space : Profile → Bool
-is_built_space p = (p.callers == 1) && (p.nano == 0) && (p.zones == 1)
+is_built_space p = (p.callers == 1) && (p.zones == 1)
 
--- `malloc` of at most 32,768 bytes, `free`, `fill`, `show` and `link`
+-- `malloc`, `free`, `fill`, `show` and `link`
 abbrev pub is_built_command : Command → Bool
-is_built_command (Malloc name n) = nat_le n 32768
+is_built_command (Malloc name n) = true
+is_built_command (Calloc name n m) = false
+is_built_command (Valloc name n) = false
+is_built_command (Memalign name al n) = false
+is_built_command (Realloc names n) = false
 is_built_command (Free name) = true
+is_built_command (FreeAt name off) = false
+is_built_command (ZoneFree zone name) = false
+is_built_command (SizedFree name n) = false
+is_built_command (Size name) = false
 is_built_command (Fill name byte) = true
 is_built_command (Show name off count) = true
 is_built_command (Link name off target) = true
-is_built_command _ = false
+is_built_command (Give name to given) = false
+is_built_command (Batch name count n) = false
+is_built_command (Unbatch name) = false
+is_built_command (Use zone) = false
 
 -- `round`, and those commands
 abbrev pub is_built_line : Line → Bool

@@ -2,21 +2,21 @@
 use Rattle.std.specs.Prelude.{◌≡◌, Bool, true, ◌&&◌, List, [], ◌∷◌, map, IsTrue}
 use Rattle.std.specs.List.{list_all}
 use Rattle.mz_events.specs.declared.entry.Entry.{Entry}
-use Rattle.mz_trace.specs.declared.run.Step.{Step}
+use Rattle.mz_trace.specs.declared.run.RunEntry.{RunEntry}
 use Rattle.mz_trace.specs.declared.run.CallRecord.{CallRecord}
 use Rattle.mz_trace.specs.declared.run.RunRound.{RunRound}
 use Rattle.mz_lines.specs.Answers.{answer_fits}
-use Rattle.mz_trace.specs.RunForms.{step_fits}
+use Rattle.mz_trace.specs.RunForms.{entry_fits}
 use Rattle.mz_session.specs.Sessions.{SessionView, Serves}
 use Rattle.mz_run.specs.Built.{is_built_command}
 
 -- an entry as a record has it: whose it is, the section says
-abbrev pub step_of : Entry → Step
+abbrev pub step_of : Entry → RunEntry
 step_of e = record { ticket = e.ticket; event = e.event }
 
 -- the record's entries and its answer have numbers that a line can have
 abbrev pub is_told : CallRecord → Bool
-is_told d = list_all step_fits d.steps && answer_fits d.answer
+is_told d = list_all entry_fits d.steps && answer_fits d.answer
 
 -- the session served the command of the record, one of those that are built, and the record has the answer and just the entries
 pub record Turn (s : SessionView) (d : CallRecord) (t : SessionView) : Type 0 where

@@ -7,7 +7,7 @@ ghost use Rattle.mz_fit.specs.Tail.{tail_of};
 ghost use Rattle.mz_trace.specs.RunForms.{IsRun, IsTail};
 ghost use Rattle.mz_trace.specs.RunTexts.{round_of};
 ghost use Rattle.mz_trace.specs.Texts.{IsTrace};
-ghost use Rattle.mz_trace.specs.RunForms.{step_fits};
+ghost use Rattle.mz_trace.specs.RunForms.{entry_fits};
 ghost use Rattle.mz_session.specs.Sessions.{IsKept, Serves};
 ghost use Rattle.mz_run.specs.RunLaws.{RunLaws};
 ghost use Rattle.mz_run.specs.Built.{IsBuilt, is_built_round, is_built_command};
@@ -20,7 +20,7 @@ use mz_events::laws::entries::tickets_are_indices;
 use mz_io::Gate;
 use mz_record::laws::later_entries;
 use mz_session::Session;
-use mz_trace::{Answer, CallRecord, Command, Figures, Round, Run, RunRound, Step, Trace};
+use mz_trace::{Answer, CallRecord, Command, Figures, Round, Run, RunEntry, RunRound, Trace};
 use std::alloc::{AllocError, Global};
 use std::sync::Wait;
 
@@ -171,13 +171,13 @@ fn answer_to<R: Wait>(
 }
 
 // Entries as a record has them.
-fn steps_of(alloc: Global, entries: &[Entry]) -> Result<Vec<Step>, AllocError>
+fn steps_of(alloc: Global, entries: &[Entry]) -> Result<Vec<RunEntry>, AllocError>
     ensures steps { IfOk result (λ steps. steps.items ≡ map step_of entries.now) }
-    ensures told { IfOk result (λ steps. list_all step_fits steps.items ≡ true) }
+    ensures told { IfOk result (λ steps. list_all entry_fits steps.items ≡ true) }
 {
     let mut steps = Vec::with_capacity(alloc, entries.len())?;
     for entry in entries {
-        let step = Step {
+        let step = RunEntry {
             ticket: entry.ticket,
             event: entry.event,
         };

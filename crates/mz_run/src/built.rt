@@ -13,9 +13,6 @@ use mz_trace::{Command, Round, Trace};
 /// The number of the second line of a trace, which has the space.
 const SPACE_LINE: u64 = 2;
 
-// The most bytes that a request may have.
-const MOST_ASKED: u64 = 32_768;
-
 /// The number of a line that isn't built.
 #[derive(Clone, Copy, Debug, PartialEq, Eq)]
 pub struct Unbuilt {
@@ -40,17 +37,30 @@ pub fn unbuilt_line(trace: &Trace) -> Option<u64>
 fn is_built_space(space: &Profile) -> bool
     ensures { result ≡ is_built_space space.now }
 {
-    space.callers == 1 && space.nano == 0 && space.zones == 1
+    space.callers == 1 && space.zones == 1
 }
 
 fn is_built_command(command: &Command) -> bool
     ensures { result ≡ is_built_command command.now }
 {
     match command {
-        Command::Malloc { n, .. } => *n <= MOST_ASKED,
-        Command::Free { .. } | Command::Fill { .. } | Command::Show { .. } | Command::Link { .. } =>
-            true,
-        _ => false,
+        Command::Malloc { .. }
+        | Command::Free { .. }
+        | Command::Fill { .. }
+        | Command::Show { .. }
+        | Command::Link { .. } => true,
+        Command::Calloc { .. }
+        | Command::Valloc { .. }
+        | Command::Memalign { .. }
+        | Command::Realloc { .. }
+        | Command::FreeAt { .. }
+        | Command::ZoneFree { .. }
+        | Command::SizedFree { .. }
+        | Command::Size { .. }
+        | Command::Give { .. }
+        | Command::Batch { .. }
+        | Command::Unbatch { .. }
+        | Command::Use { .. } => false,
     }
 }
 

@@ -8,7 +8,9 @@ use std::thread::Threads;
 mod bytes;
 mod calls;
 mod commands;
+mod generated;
 mod inputs;
+mod large;
 mod regions;
 mod unbuilt;
 

@@ -8,12 +8,12 @@ ghost use Rattle.std.specs.List.{list_all};
 ghost use Rattle.mz_base.specs.Names.{is_base_name};
 ghost use Rattle.mz_lines.specs.Events.{event_fits};
 ghost use Rattle.mz_lines.specs.Answers.{answer_fits};
-ghost use Rattle.mz_trace.specs.RunForms.{step_fits};
+ghost use Rattle.mz_trace.specs.RunForms.{entry_fits};
 ghost use Rattle.mz_trace.specs.TailTexts.{listed_fits, statistics_fit};
 
 use mz_base::ZoneName;
 use mz_events::{Event, Place};
-use mz_trace::{Answer, Listed, Statistics, Step};
+use mz_trace::{Answer, Listed, RunEntry, Statistics};
 use mz_words::Shown;
 
 // A number of 64 bits.
@@ -97,8 +97,8 @@ fn event(e: Event)
 }
 
 /// An entry of a record.
-pub(crate) fn step(step: Step)
-    ensures { step_fits step ≡ true }
+pub(crate) fn step(step: RunEntry)
+    ensures { entry_fits step ≡ true }
 {
     number(step.ticket);
     event(step.event);

@@ -71,7 +71,6 @@ kept-written s lots word l ws kept held many with_it =
     let of_m : IsOfSpace s.book.site m = record {
       zone = of_l.zone;
       space = of_l.space;
-      small = let count = ap length (written-bytes l ws many) in let most = of_l.small in omega (arith, count, many, most);
     } in
     record {
       profile = kept.profile;
@@ -90,6 +89,7 @@ kept-written s lots word l ws kept held many with_it =
           omega (arith, old, new, found, same);
       once = kept.once;
       mine = kept.mine;
+      below_nano = kept.below_nano;
     }
 
 -- a command that writes bytes of a block that has a name

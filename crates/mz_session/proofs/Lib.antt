@@ -10,7 +10,7 @@ mod RackLemmas
 mod OwnerLemmas
 mod KeptLemmas
 mod BytesLemmas
-mod SizeLemmas
+mod BelowLemmas
 mod ServedLemmas
 mod OpenedLemmas
 mod ListingLemmas

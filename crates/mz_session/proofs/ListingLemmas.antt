@@ -1,7 +1,7 @@
--- The live blocks of a space of one zone without nano, sorted by address, are its listing.
-use Rattle.std.proofs.Common.{◌≡◌, ℕ, suc, ◌+◌, ◌<◌, ◌≤◌, ◌==◌, Bool, true, false, cond, List, [], ◌∷◌, map, filter, length, slice_index_or, arith, refl, ap, sym, subst, ◌∙◌, inl, inr}
+-- The live blocks of a space of one zone, none of them one of nano's, sorted by address, are its listing.
+use Rattle.std.proofs.Common.{◌≡◌, ℕ, suc, ◌+◌, ◌*◌, ◌<◌, ◌≤◌, ◌==◌, Bool, true, false, cond, List, [], ◌∷◌, map, filter, length, slice_index_or, arith, refl, ap, sym, subst, ◌∙◌, inl, inr}
 use Rattle.std.specs.Prelude.{◌&&◌, ◌||◌, ◌⊎◌, ◌%◌, nat_le, nat_lt, sum_by, find, None, Some}
-use Rattle.std.specs.List.{All, Contains}
+use Rattle.std.specs.List.{All, Contains, list_any}
 use Rattle.std.specs.List.Sorted.{IsPermutation, IsNonDecreasingBy}
 use Rattle.std.proofs.lemmas.Bool.{cases_Bool, and_parts, and_from, false≢true}
 use Rattle.std.proofs.lemmas.Bool.Decides.{nat_tests}
@@ -30,8 +30,10 @@ use Rattle.mz_book.specs.Living.{times}
 use Rattle.mz_trace.specs.declared.tail.Listed.{Listed}
 use Rattle.mz_fit.specs.Standing.{Standing, default_zone, zone_name}
 use Rattle.mz_fit.specs.Tail.{listed, listing_of}
+use Rattle.mz_session.specs.Counts.{AreBelowNano}
 use Rattle.mz_session.specs.Listing.{listed_first}
 use Rattle.mz_session.specs.ListingLaws.{ListingLaws}
+use Rattle.mz_session.proofs.CountLemmas.{or-left, or-right}
 
 same_true : (x y : Block) → same_block x y ≡ true → x ≡ y
 same_true x y same =
@@ -206,15 +208,20 @@ contains_has [] x there = absurd (let low = there.1 in omega (arith, low))
 contains_has (y ∷ ys) x there = elim (Contains-append_cases (y ∷ []) ys x there) [
   | inl here ↦ elim (Contains-push_cases [] y x here) [
     | inl nowhere ↦ absurd (let low = nowhere.1 in omega (arith, low))
-    | inr same ↦ either (same_block x y) (has_block ys x) (inl (subst (λ z. same_block z y ≡ true) same (same_refl y)))
+    | inr same ↦ or-left (same_block x y) (has_block ys x) (subst (λ z. same_block z y ≡ true) same (same_refl y))
   ]
-  | inr behind ↦ either (same_block x y) (has_block ys x) (inr (contains_has ys x behind))
+  | inr behind ↦ or-right (same_block x y) (has_block ys x) (contains_has ys x behind)
 ]
-  where
-    either : (a b : Bool) → (a ≡ true) ⊎ (b ≡ true) → (a || b) ≡ true
-    either true b h = refl
-    either false b (inl h) = absurd (false≢true h)
-    either false b (inr h) = h
+
+live_there : (xs : List (Spot × Block)) (x : Spot × Block) → Contains xs x → list_any (λ y. same_block x.1 y.1) xs ≡ true
+live_there [] x there = absurd (let low = there.1 in omega (arith, low))
+live_there (y ∷ ys) x there = elim (Contains-append_cases (y ∷ []) ys x there) [
+  | inl here ↦ elim (Contains-push_cases [] y x here) [
+    | inl nowhere ↦ absurd (let low = nowhere.1 in omega (arith, low))
+    | inr same ↦ or-left (same_block x.1 y.1) (list_any (λ z. same_block x.1 z.1) ys) (subst (λ z. same_block z.1 y.1 ≡ true) same (same_refl y.1))
+  ]
+  | inr behind ↦ or-right (same_block x.1 y.1) (list_any (λ z. same_block x.1 z.1) ys) (live_there ys x behind)
+]
 
 -- a block's range is that of its size
 
@@ -256,36 +263,46 @@ no_nano_run Nano w is = absurd (false≢true is)
 abbrev item : Block → Range → List ℕ → Listed
 item b r z = record { a = b.first; s = b.size; range = r; zone = z }
 
-module _ (L : ListingLaws) (p : Profile) (es : List Entry) (v : Standing) (ok : AreLawful p opening es) (one_zone : p.zones ≡ 1) (no_nano : p.nano ≡ 0) (zones : v.zones ≡ (0, default_zone) ∷ []) where
+module _ (L : ListingLaws) (p : Profile) (es : List Entry) (v : Standing) (ok : AreLawful p opening es) (one_zone : p.zones ≡ 1) (bs : List Block) (counts : (b : Block) → times b bs ≡ one_for (is_live (after_all p opening es) b)) (below : AreBelowNano p bs) (zones : v.zones ≡ (0, default_zone) ∷ []) where
   abbrev s : State
   s = after_all p opening es
 
   -- a live block lies in a place of zone 0 whose range is that of its size
-  at_home : (j : Spot) (b : Block) → LiesAtHome p s j b → is_size_of (place_of j) b.size ≡ true → (range_of (place_of j) ≡ route_of b.size) × (zone_of (place_of j) ≡ 0)
-  at_home (keeper_at k) b home size =
+  at_home : (j : Spot) (b : Block) → 1 ≤ times b bs → LiesAtHome p s j b → is_size_of (place_of j) b.size ≡ true → (range_of (place_of j) ≡ route_of b.size) × (zone_of (place_of j) ≡ 0)
+  at_home (keeper_at k) b there home size =
       let length = (L.runs_fit p es ok).lengths (keeper_at k) home.0 home.1 in
       let low = L.in_zones p es (keeper_at k) home.0 ok home.1 in
       (keeper_range k b.size size (no_nano_run k home.0.pages length), omega (arith, low, one_zone))
-  at_home (nano_page i) b home size =
+  at_home (nano_page i) b there home size =
       let from = home.0 in
-      let below = home.1 in
-      absurd (omega (arith, from, below, no_nano))
+      let start = (and_parts (nat_le (i * PAGE) b.first) (nat_le (block_end b) ((i + 1) * PAGE)) home.2).0 in
+      let low : i * PAGE ≤ b.first = grind (arith, nat_tests, start) in
+      let least = (and_parts (b.size % 16 == 0) (nat_le 16 b.size) (and_parts ((b.size % 16 == 0) && nat_le 16 b.size) (nat_le b.size 256) size).0).1 in
+      let some : 16 ≤ b.size = grind (arith, nat_tests, least) in
+      let end = below b there in
+      absurd (omega (arith, from, low, end, some))
 
   zone_is : (z : ℕ) → z ≡ 0 → zone_name v z ≡ default_zone
   zone_is z first = ap (λ n. zone_name v n) first ∙ ap (λ zs. elim (find (λ (x : ℕ × List ℕ). x.0 == 0) zs) [ None ↦ [] | Some x ↦ x.1 ]) zones
 
-  listed_so : (j : Spot) (b : Block) → has_block (kept_at s j).live b ≡ true → listed v (j, b) ≡ listed_first b
-  listed_so j b there =
-      let home = at_home j b ((L.separate p es ok).at_home j b there) ((L.forms p es j b ok there).size) in
+  listed_so : (j : Spot) (b : Block) → 1 ≤ times b bs → has_block (kept_at s j).live b ≡ true → listed v (j, b) ≡ listed_first b
+  listed_so j b among there =
+      let home = at_home j b among ((L.separate p es ok).at_home j b there) ((L.forms p es j b ok there).size) in
       ap (λ r. item b r (zone_name v (zone_at j))) home.0 ∙ ap (λ z. item b (route_of b.size) z) (zone_is (zone_at j) home.1)
+
+  among : (x : Spot × Block) → Contains (live_blocks s) x → 1 ≤ times x.1 bs
+  among x there =
+      let n = counts x.1 in
+      let one : one_for (is_live s x.1) ≡ 1 = ap one_for (live_there (live_blocks s) x there) in
+      omega (arith, n, one)
 
   each_listed : Each (λ x. listed v x ≡ listed_first x.1) (by_address (live_blocks s))
   each_listed = each_sorted (λ x. listed v x ≡ listed_first x.1) (live_blocks s)
       (each_from (λ x. listed v x ≡ listed_first x.1) (live_blocks s)
-      (λ x there. listed_so x.0 x.1 (contains_has (kept_at s x.0).live x.1 (((L.by_spot s (L.once p es)).live x.0 x.1).0 there))))
+      (λ x there. listed_so x.0 x.1 (among x there) (contains_has (kept_at s x.0).live x.1 (((L.by_spot s (L.once p es)).live x.0 x.1).0 there))))
 
-  pub is_listing : (bs : List Block) (ys : List Listed) → ((b : Block) → times b bs ≡ one_for (is_live s b)) → IsPermutation (map listed_first bs) ys → IsNonDecreasingBy (λ l. l.a) ys → ys ≡ listing_of v s
-  is_listing bs ys counts moved sorted =
+  pub is_listing : (ys : List Listed) → IsPermutation (map listed_first bs) ys → IsNonDecreasingBy (λ l. l.a) ys → ys ≡ listing_of v s
+  is_listing ys moved sorted =
       let zs = map block_in ys in
       let live = map (λ (x : Spot × Block). x.1) (by_address (live_blocks s)) in
       let blocks_moved : IsPermutation bs zs = subst (λ xs. IsPermutation xs zs) (map_back bs) (IsPermutation-map block_in (map listed_first bs) ys moved) in

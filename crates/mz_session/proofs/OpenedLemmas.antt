@@ -29,6 +29,7 @@ opened-here p x r for_one profile zone = record {
     in_hand = λ b. refl;
     once = λ b. omega arith;
     mine = refl;
+    below_nano = λ b there. absurd (omega (arith, there));
   };
   profile = refl;
   seen = refl;

@@ -12,6 +12,7 @@ use Rattle.mz_events.specs.declared.entry.Entry.{Entry}
 use Rattle.mz_events.specs.State.{opening, is_open}
 use Rattle.mz_events.specs.Changes.{one_for}
 use Rattle.mz_events.specs.Hands.{hand_through}
+use Rattle.mz_events.specs.History.{AreLawful}
 use Rattle.mz_words.specs.declared.name.Name.{Name}
 use Rattle.mz_words.specs.declared.name.Name.TheVariants.{Base, Batch, Given}
 use Rattle.mz_lines.specs.declared.answer.Answer.TheVariants as answers
@@ -31,7 +32,7 @@ use Rattle.mz_rack.specs.Freeing.{IsFreeable, Frees}
 use Rattle.mz_rack.specs.Serving.{CanServe, Answers, keepers_for}
 use Rattle.mz_session.specs.Names.{NamedLots, block_of, blocks_named, lot_named, block_named}
 use Rattle.mz_book.specs.Living.{times}
-use Rattle.mz_session.specs.Counts.{count_in, AreWith}
+use Rattle.mz_session.specs.Counts.{count_in, AreWith, AreBelowNano}
 use Rattle.mz_session.specs.SessionLaws.{SessionLaws}
 use Rattle.mz_session.specs.Sessions.{SessionView, IsForOne, IsOfSpace, IsKept, StandsFor, setting_of, record_of, Serves}
 use Rattle.mz_session.proofs.CountLemmas.{some-is, same-self, count-cons, count-append, counted-there, same-is, one-true, one-false, count-gone, count-others}
@@ -40,7 +41,7 @@ use Rattle.mz_session.proofs.TicketLemmas.{counts-indices, rising-behind}
 use Rattle.mz_session.proofs.RackLemmas.{added-own, hand-after, hand-once, no-name}
 use Rattle.mz_session.proofs.StandsLemmas.{stands-served, stands-unserved, stands-dropped}
 use Rattle.mz_session.proofs.RecordLemmas.{fits-by, serves-by, task-serving, with-none, with-some}
-use Rattle.mz_session.proofs.SizeLemmas.{served-small}
+use Rattle.mz_session.proofs.BelowLemmas.{below-made, below-added, below-dropped}
 use Rattle.mz_session.proofs.OwnerLemmas.{are_mine, mine-through}
 use Rattle.mz_session.proofs.KeptLemmas.{apart, of-space-with}
 
@@ -73,9 +74,9 @@ module _ (L : SessionLaws) (s : SessionView) (kept : IsKept s) (b t : Account) (
       (counts-indices 0 (s.book.seen ++ mine) (λ i e at. L.index t.profile opening t.seen orderly.lawful i e (ap (λ es. slice_get es i) more-seen ∙ at)))
 
   pub kept-after :
-      (lots : NamedLots) → HoldsNothing t → ((w : List ℕ) (l : LotView) → lot_named lots w ≡ Some l → IsOfSpace s.book.site l)
+      (lots : NamedLots) → HoldsNothing t → AreBelowNano s.book.profile (hand t) → ((w : List ℕ) (l : LotView) → lot_named lots w ≡ Some l → IsOfSpace s.book.site l)
       → ((c : Block) → times c (hand t) ≡ times c (blocks_named lots)) → IsKept (record { rack = s.rack; book = t; lots = lots })
-  kept-after lots nothing of_space in_hand = record {
+  kept-after lots nothing below of_space in_hand = record {
     profile = kept.profile ∙ sym same-profile;
     zone = kept.zone;
     for_one = subst IsForOne (sym same-profile) kept.for_one;
@@ -87,6 +88,7 @@ module _ (L : SessionLaws) (s : SessionView) (kept : IsKept s) (b t : Account) (
     in_hand = in_hand;
     once = λ c. hand-once t c orderly;
     mine = ap (are_mine 0) (adds.pairs ∙ ap (λ c. pairs_through c b.pairs mine) (ap (λ x. x.caller) room ∙ kept.caller)) ∙ mine-through 0 b.pairs mine (ap (λ x. are_mine 0 x.pairs) room ∙ kept.mine);
+    below_nano = subst (λ p. AreBelowNano p (hand t)) (sym same-profile) below;
   }
 
 -- a block that has a name ended, and the name with it
@@ -120,6 +122,7 @@ serves-free L s kept b t lots word l room held with_it freed orderly =
     in
     let kept_now =
     kept-after L s kept b t room mine freed.holds adds orderly lots freed.nothing_held
+    (subst (AreBelowNano s.book.profile) (sym hand_now) (below-dropped s.book.profile block (hand s.book) kept.below_nano))
     (of-space-with s.lots lots word None (IsOfSpace s.book.site) with_it (λ x none. absurd (none-some x none)) kept.of_space) counts in
     let entries : IsDropped s.book.profile t.seen block mine = subst (λ p. IsDropped p t.seen block mine) (ap (λ x. x.profile) room) freed.freed.1 in
     serves-by s u (Free (Base word)) answers.Done mine kept_now (same-profile L s kept b t room mine freed.holds adds orderly) (more-seen L s kept b t room mine freed.holds adds orderly)
@@ -163,6 +166,7 @@ kept-with-room s kept b lots room named counted = record {
   in_hand = λ c. ap (λ x. times c (hand x)) room ∙ kept.in_hand c ∙ sym (counted c);
   once = λ c. let same = ap (λ x. times c (hand x)) room in let most = kept.once c in omega (arith, same, most);
   mine = ap (λ x. are_mine 0 x.pairs) room ∙ kept.mine;
+  below_nano = subst (λ x. AreBelowNano x.profile (hand x)) (sym room) kept.below_nano;
 }
 
 -- the session stands for a standing with whatever book, and where names have the same lots
@@ -205,10 +209,10 @@ block-case c b hand =
 
 -- a request was served, and the block has the name
 pub serves-malloc :
-    (L : SessionLaws) (s : SessionView) (kept : IsKept s) (b t : Account) (lots : NamedLots) (word : List ℕ) (n : ℕ) (l : LotView) → HasMoreRoom s.book b → n ≤ 32768
+    (L : SessionLaws) (s : SessionView) (kept : IsKept s) (b t : Account) (lots : NamedLots) (word : List ℕ) (n : ℕ) (l : LotView) → HasMoreRoom s.book b
     → lot_named s.lots word ≡ None → AreWith s.lots word (Some l) lots → Answers b s.rack.zone n 16 (Ok l) t → IsOrderly t
     → Serves s (Malloc word n) (answers.Block l.span.first (length l.span.bytes)) (record { rack = s.rack; book = t; lots = lots })
-serves-malloc L s kept b t lots word n l room small free with_it asked orderly =
+serves-malloc L s kept b t lots word n l room free with_it asked orderly =
     let u : SessionView = record { rack = s.rack; book = t; lots = lots } in
     let mine = asked.mine in
     let adds = asked.grows.adds in
@@ -236,12 +240,16 @@ serves-malloc L s kept b t lots word n l room small free with_it asked orderly =
     let of_l : IsOfSpace s.book.site l = record {
       zone = asked.answer.0 ∙ kept.zone;
       space = asked.answer.1 ∙ ap (λ x. x.site) room;
-      small = served-small b.profile t.seen (request_of b.caller s.rack.zone n 16) mine block small asked.serves.served;
     } in
+    let made : Some block ≡ first_made mine = L.made b.profile t.seen (request_of b.caller s.rack.zone n 16) mine (Some block) asked.serves.served in
+    let lawful : AreLawful s.book.profile opening (s.book.seen ++ mine) =
+    subst (λ p. AreLawful p opening (s.book.seen ++ mine)) (same-profile L s kept b t room mine holds adds orderly)
+    (subst (AreLawful t.profile opening) (more-seen L s kept b t room mine holds adds orderly) orderly.lawful) in
+    let below = below-made L s.book.profile s.book.seen mine block lawful asked.outside_nano (sym made) in
     let kept_now =
     kept-after L s kept b t room mine holds adds orderly lots asked.nothing_held
+    (subst (AreBelowNano s.book.profile) (sym hand_now) (below-added s.book.profile block (hand s.book) below kept.below_nano))
     (of-space-with s.lots lots word (Some l) (IsOfSpace s.book.site) with_it (λ x is. subst (IsOfSpace s.book.site) (some-is l x is) of_l) kept.of_space) counts in
-    let made : Some block ≡ first_made mine = L.made b.profile t.seen (request_of b.caller s.rack.zone n 16) mine (Some block) asked.serves.served in
     let request : ServesRequest s.book.profile t.seen (request_of 0 0 n 16) mine (first_made mine) =
     subst (λ o. ServesRequest s.book.profile t.seen (request_of 0 0 n 16) mine o) made
     (subst (λ z. ServesRequest s.book.profile t.seen (request_of 0 z n 16) mine (Some block)) kept.zone
@@ -260,10 +268,10 @@ serves-malloc L s kept b t lots word n l room small free with_it asked orderly =
 
 -- none was served
 pub serves-null :
-    (L : SessionLaws) (s : SessionView) (kept : IsKept s) (b t : Account) (word : List ℕ) (n : ℕ) (e : Null) → HasMoreRoom s.book b → n ≤ 32768
+    (L : SessionLaws) (s : SessionView) (kept : IsKept s) (b t : Account) (word : List ℕ) (n : ℕ) (e : Null) → HasMoreRoom s.book b
     → lot_named s.lots word ≡ None → Answers b s.rack.zone n 16 (Err e) t → IsOrderly t
     → Serves s (Malloc word n) answers.Null (record { rack = s.rack; book = t; lots = s.lots })
-serves-null L s kept b t word n e room small free asked orderly =
+serves-null L s kept b t word n e room free asked orderly =
     let u : SessionView = record { rack = s.rack; book = t; lots = s.lots } in
     let mine = asked.mine in
     let adds = asked.grows.adds in
@@ -271,7 +279,7 @@ serves-null L s kept b t word n e room small free asked orderly =
     let hand_now : hand t ≡ hand s.book =
     hand-through-mine L s kept b t room mine holds adds orderly
     ∙ L.served b.profile t.seen (request_of b.caller s.rack.zone n 16) mine None (hand s.book) asked.serves.served ∙ append-nil (hand s.book) in
-    let kept_now = kept-after L s kept b t room mine holds adds orderly s.lots asked.nothing_held kept.of_space (λ c. ap (times c) hand_now ∙ kept.in_hand c) in
+    let kept_now = kept-after L s kept b t room mine holds adds orderly s.lots asked.nothing_held (subst (AreBelowNano s.book.profile) (sym hand_now) kept.below_nano) kept.of_space (λ c. ap (times c) hand_now ∙ kept.in_hand c) in
     let made : None ≡ first_made mine = L.made b.profile t.seen (request_of b.caller s.rack.zone n 16) mine None asked.serves.served in
     let request : ServesRequest s.book.profile t.seen (request_of 0 0 n 16) mine (first_made mine) =
     subst (λ o. ServesRequest s.book.profile t.seen (request_of 0 0 n 16) mine o) made
@@ -292,10 +300,7 @@ pub freeable :
     (s : SessionView) (kept : IsKept s) (b : Account) (room : HasMoreRoom s.book b) (word : List ℕ) (l : LotView) → lot_named s.lots word ≡ Some l → IsFreeable b l
 freeable s kept b room word l held =
     let of_l = kept.of_space word l held in
-    let zones = ap (λ x. x.profile.zones) room ∙ kept.for_one.zones in
     record {
       in_hand = in-hand s kept b room word l held;
-      zone = let z = of_l.zone in omega (arith, z, zones);
-      zone_open = ap (λ x. is_open (state_of x) l.zone) room ∙ ap (λ z. is_open (state_of s.book) z) of_l.zone ∙ kept.zone_open;
       space = of_l.space ∙ ap (λ x. x.site) (sym room);
     }

@@ -1,7 +1,10 @@
 -- How often a block is among some, and how lists of named lots change. This project's own.
-use Rattle.std.specs.Prelude.{ℕ, ◌+◌, ◌≡◌, List, ◌++◌, length, take, drop, Option, None, Some, if◌then◌else◌}
+use Rattle.std.specs.Prelude.{ℕ, ◌+◌, ◌*◌, ◌≡◌, ◌≤◌, List, ◌++◌, length, take, drop, Option, None, Some, if◌then◌else◌}
 use Rattle.std.specs.Str.{bytes_eq}
-use Rattle.mz_base.specs.Space.{Block, same_block}
+use Rattle.mz_base.specs.declared.profile.Profile.{Profile}
+use Rattle.mz_base.specs.declared.range.TheConstants.{PAGE}
+use Rattle.mz_base.specs.Space.{Block, block_end, same_block}
+use Rattle.mz_events.specs.Places.{nano_start}
 use Rattle.mz_events.specs.Changes.{one_for}
 use Rattle.mz_events.specs.State.{State}
 use Rattle.mz_book.specs.Living.{times}
@@ -26,3 +29,7 @@ written off ws bs = take off bs ++ ws ++ drop (off + length ws) bs
 -- these are just the live blocks of the state, each once
 abbrev pub AreLive : List Block → State → Type 0
 AreLive bs s = (b : Block) → times b bs ≡ one_for (is_live s b)
+
+-- each of these ends below nano's pages
+abbrev pub AreBelowNano : Profile → List Block → Type 0
+AreBelowNano p bs = (b : Block) → 1 ≤ times b bs → block_end b ≤ nano_start p * PAGE

@@ -1,4 +1,4 @@
--- A block of zone 0 as it is listed. Its range is that of its size: nano's blocks don't come yet. This project's own.
+-- A block of zone 0 as it is listed, one that isn't nano's. Its range is that of its size. This project's own.
 use Rattle.mz_base.specs.Space.{Block}
 use Rattle.mz_base.specs.Sizes.{route_of}
 use Rattle.mz_trace.specs.declared.tail.Listed.{Listed}

@@ -1,5 +1,5 @@
 -- What contracts see of a session, the standing for which it stands, and when it serves a command. This project's own.
-use Rattle.std.specs.Prelude.{ℕ, ◌≡◌, ◌≤◌, ◌==◌, true, List, [], ◌∷◌, ◌++◌, length, Some, IsTrue}
+use Rattle.std.specs.Prelude.{ℕ, ◌≡◌, ◌≤◌, ◌==◌, true, List, [], ◌∷◌, ◌++◌, Some, IsTrue}
 use Rattle.std.specs.List.{list_all, AllByRecursion}
 use Rattle.mz_base.specs.declared.profile.Profile.{Profile}
 use Rattle.mz_base.specs.Site.{Site}
@@ -22,11 +22,11 @@ use Rattle.mz_rack.specs.declared.rack.Rack.{Rack}
 use Rattle.mz_rack.specs.Lots.{LotView}
 use Rattle.mz_session.specs.Names.{NamedLots, block_of, blocks_named, lot_named, block_named}
 use Rattle.mz_book.specs.Living.{times}
+use Rattle.mz_session.specs.Counts.{AreBelowNano}
 
--- a space for one caller, of one zone, without nano
+-- a space for one caller, of one zone
 pub record IsForOne (p : Profile) : Type 0 where
   pub callers : p.callers ≡ 1
-  pub nano : p.nano ≡ 0
   pub zones : p.zones ≡ 1
 
 -- What contracts see of a session: its rack, the account of its book, and the names that are held with their lots.
@@ -35,14 +35,13 @@ pub record SessionView : Type 0 where
   pub book : Account
   pub lots : NamedLots
 
--- the lot is one of zone 0 and of this space, and no larger than what regions serve
+-- the lot is one of zone 0 and of this space
 pub record IsOfSpace (x : Site) (l : LotView) : Type 0 where
   pub zone : l.zone ≡ 0
   pub space : l.span.space ≡ x
-  pub small : length l.span.bytes ≤ 32768
 
 -- What holds of a session between two commands. The rack is that of zone 0, nothing is held, and the blocks in the caller's hand
--- are just those of the lots that have names, each once; nobody else owns any.
+-- are just those of the lots that have names, each once; nobody else owns any. None of them is one of nano's.
 pub record IsKept (s : SessionView) : Type 0 where
   pub profile : s.rack.profile ≡ s.book.profile
   pub zone : s.rack.zone ≡ 0
@@ -55,6 +54,7 @@ pub record IsKept (s : SessionView) : Type 0 where
   pub in_hand : (b : Block) → times b (hand s.book) ≡ times b (blocks_named s.lots)
   pub once : (b : Block) → times b (hand s.book) ≤ 1
   pub mine : IsTrue (list_all (λ h. h.caller == 0) s.book.pairs)
+  pub below_nano : AreBelowNano s.book.profile (hand s.book)
 
 -- the session before the first command
 pub record IsOpened (p : Profile) (s : SessionView) : Type 0 where

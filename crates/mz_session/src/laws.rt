@@ -5,7 +5,7 @@ ghost use Rattle.mz_session.specs.SessionLaws.{SessionLaws};
 
 use mz_book::Book;
 use mz_book::laws::hands;
-use mz_events::laws::entries;
+use mz_events::laws::{entries, events, separation};
 use mz_rack::Keeper;
 
 /// They hold, all together.
@@ -14,6 +14,9 @@ pub(crate) fn of_sessions()
 {
     hands::hands_after_an_event();
     entries::tickets_are_indices();
+    entries::lawful_entries_split();
+    events::when_an_event_fits();
+    separation::separation();
     mz_record::laws::hands_after_requests();
     mz_record::laws::served_is_made();
     mz_record::laws::bytes_are_kept();

@@ -12,7 +12,7 @@ ghost use Rattle.mz_fit.specs.Tail.{listing_of};
 ghost use Rattle.mz_base.specs.Sizes.{route_of};
 ghost use Rattle.mz_session.specs.ListingLaws.{ListingLaws};
 ghost use Rattle.mz_session.specs.Sessions.{IsForOne};
-ghost use Rattle.mz_session.specs.Counts.{AreLive};
+ghost use Rattle.mz_session.specs.Counts.{AreLive, AreBelowNano};
 
 use crate::block::Block;
 use mz_base::{ZoneName, route};
@@ -21,9 +21,10 @@ use mz_events::laws::{separation, states};
 use mz_trace::Listed;
 use std::alloc::{AllocError, Global};
 
-/// The live blocks of a history as they are listed, all in the zone default of a space for one caller.
+/// The live blocks of a history as they are listed, all in the zone default of a space for one caller, and none of them one
+/// of nano's.
 pub(crate) fn listing(alloc: Global, blocks: &[Block]) -> Result<Vec<Listed>, AllocError>
-    ensures { IfOk result (λ list. (p : Profile) (es : List entry) (v : Standing) → IsWithinLimits p → IsForOne p → AreLawful p opening es → AreLive blocks.now (after_all p opening es) → v.zones ≡ (0, default_zone) ∷ [] → list.items ≡ listing_of v (after_all p opening es)) }
+    ensures { IfOk result (λ list. (p : Profile) (es : List entry) (v : Standing) → IsWithinLimits p → IsForOne p → AreLawful p opening es → AreLive blocks.now (after_all p opening es) → AreBelowNano p blocks.now → v.zones ≡ (0, default_zone) ∷ [] → list.items ≡ listing_of v (after_all p opening es)) }
 {
     of_listings();
     let zone = ZoneName::new(b"default").unwrap();

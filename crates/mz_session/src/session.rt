@@ -11,10 +11,10 @@ use crate::laws::{of_book, of_sessions};
 use crate::listing::listing;
 use crate::lots::Lots;
 use crate::statistics::statistics;
-use mz_base::{Items, Profile};
+use mz_base::{Items, PAGE, Profile};
 use mz_book::{Book, PlainBook};
 use mz_events::Entry;
-use mz_ground::Space;
+use mz_ground::{Space, Span};
 use mz_rack::{Keeper, Rack};
 use mz_trace::{Answer, Figures};
 use mz_words::{BaseName, BlockName, Name, ShowCount, Shown};
@@ -38,6 +38,8 @@ pub struct Session {
     rack: Rack,
     book: PlainBook<Keeper>,
     lots: Lots,
+    // The bytes of nano's pages, which nothing is served from yet.
+    nano: Span,
 }
 
 impl Model for Session {
@@ -49,20 +51,23 @@ impl Model for Session {
 }
 
 impl Session {
-    /// The session before the first command, in a space of its own. All memory of the space is taken here.
+    /// The session before the first command, in a space of its own. All memory of the space is taken here. Nano's pages stay
+    /// with the session, and nothing is served from them.
     pub fn open(alloc: Global, p: &Profile) -> Result<Session, AllocError>
         requires limits { IsWithinLimits p.now }
         requires for_one { IsForOne p.now }
         ensures { IfOk result (IsOpened p.now) }
     {
-        let span = Space::new(alloc, p.pages)?;
-        let keepers = Keeper::all(alloc, p, span)?;
+        let space = Space::new(alloc, p.pages)?;
+        let (below, nano) = space.split((p.pages - p.nano) * PAGE);
+        let keepers = Keeper::all(alloc, p, below)?;
         let book = PlainBook::new(alloc, p, keepers)?;
         let rack = Rack::new(alloc, p, 0)?;
         Ok(Session {
             rack,
             book,
             lots: Lots::new(alloc),
+            nano,
         })
     }
 
@@ -75,8 +80,7 @@ impl Session {
 
     /// Serves a request for a block of `n` bytes that is to have the name. After want of memory the session may be any.
     pub fn malloc<R: Wait>(&mut self, rt: &R, name: BaseName, n: u64) -> Result<Answer, AllocError>
-        requires kept { IsKept self.old }
-        requires small { n ≤ 32768 }
+        requires { IsKept self.old }
         ensures { IfOk result (λ answer. Serves self.old (command.Malloc name n) answer self.new) }
     {
         of_sessions();

@@ -1,18 +1,16 @@
--- Rounds, and what the reader keeps of lines.
+-- Rounds, names and lines, with one more line.
+pub mod Counting
 pub mod RoundsGrow
-pub mod ReaderGrows
+pub mod NamesAreNoted
 pub mod LineIsKept
+-- A text without a bad line is one of a trace, and a text of a trace has no bad line.
+pub mod LinesAreInPlace
 pub mod LaterLines
--- A text without a bad line is one of a trace.
-pub mod CutsAreText
 pub mod GoodLinesMakeRounds
+pub mod LinesAreReadBack
 pub mod PrintedLines
 pub mod NormalFormIsText
-pub mod GoodTextIsTrace
--- A text of a trace has no bad line.
-pub mod LinesAreInPlace
-pub mod TraceTextIsRead
+pub mod TextsAreTraces
 -- What is printed.
-pub mod Appended
 pub mod PrintedSections
 pub mod RunHasTrace

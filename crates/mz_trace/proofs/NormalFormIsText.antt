@@ -1,11 +1,13 @@
 -- The normal form of a trace is a text of it.
 use Rattle.std.proofs.Common.{◌≡◌, ℕ, zero, suc, ◌+◌, ◌<◌, Bool, true, false, List, [], ◌∷◌, ◌++◌, map, length, eqb, cond, arith, refl, sym, ap, subst, ◌∙◌, append_assoc}
-use Rattle.std.specs.Prelude.{not, count_by, ◌&&◌}
+use Rattle.std.specs.Prelude.{not, count_by, replicate, slice_index_or, slice_set, ◌&&◌}
 use Rattle.std.specs.List.{list_all}
-use Rattle.std.proofs.lemmas.List.{append-nil, map-append}
-use Rattle.std.proofs.lemmas.List.Folds.{list_all-append}
-use Rattle.std.proofs.lemmas.Bool.{and_parts, ne_eqb, eq-eqb, ltb-true}
+use Rattle.std.proofs.lemmas.List.{append-nil, length-replicate, map-append}
+use Rattle.std.proofs.lemmas.Bool.{and_parts, or_parts, ne_eqb, eq-eqb, ltb-true}
 use Rattle.mz_lines.specs.declared.command.Command.{Command}
+use Rattle.mz_lines.specs.declared.round_line.RoundLine.{RoundLine}
+use Rattle.mz_trace.specs.declared.open_round.OpenRound.{OpenRound}
+use Rattle.mz_trace.specs.declared.reader.Reader.{Reader}
 use Rattle.mz_trace.specs.declared.round.Round.{Round}
 use Rattle.mz_trace.specs.declared.trace.Trace.{Trace}
 use Rattle.mz_lines.specs.declared.line.Line.{Line}
@@ -15,8 +17,9 @@ use Rattle.mz_trace.specs.Texts.{IsTraceText, IsTrace, normal_text}
 use Rattle.mz_lines.specs.declared.line.Line.TheVariants.{Round as round, Start as start, Call as call}
 use Rattle.mz_trace.proofs.RoundsGrow.{length-lists_from}
 use Rattle.mz_trace.proofs.PrintedLines.{lines_of_rounds-push}
-use Rattle.mz_trace.proofs.LineIsKept.{count_more}
-use Rattle.mz_trace.proofs.GoodLinesMakeRounds.{count_by-append}
+use Rattle.mz_trace.specs.Readers.{added, blank, fresh, is_misplaced, rounded, rounds_in, with_call, with_start}
+use Rattle.mz_trace.proofs.Counting.{count_more, count_by-append, count_by-push}
+use Rattle.mz_trace.proofs.LinesAreInPlace.{InPlace, all_added, lists_added, rounds_go, some_begun}
 
 abbrev of_caller : ℕ → List Command → List Call
 of_caller caller cs = map (λ c. (caller, c)) cs
@@ -66,99 +69,85 @@ normal_is_text t h = record {
 pub printed_is_text : (t : Trace) (bytes : List ℕ) → bytes ≡ normal_text t → IsTrace t → IsTraceText bytes t
 printed_is_text t bytes e h = subst (λ (bs : List ℕ). IsTraceText bs t) (sym e) (normal_is_text t h)
 
--- lines of rounds have the same lines as their normal form, each as often
-count_calls : (p : Line → Bool) (caller : ℕ) (c : ℕ) (k : Command) (cs : List Call) → count_by p (map call_line (of_caller caller (commands_by caller ((c, k) ∷ cs)))) ≡ cond (eqb c caller) (cond (p (call caller k)) 1 0) 0 + count_by p (map call_line (of_caller caller (commands_by caller cs)))
-count_calls p caller c k cs = counted (eqb c caller) where
-  counted : (b : Bool) → count_by p (map call_line (of_caller caller (cond b (k ∷ commands_by caller cs) (commands_by caller cs)))) ≡ cond b (cond (p (call caller k)) 1 0) 0 + count_by p (map call_line (of_caller caller (commands_by caller cs)))
-  counted true = let m = count_more p (call caller k) (map call_line (of_caller caller (commands_by caller cs))) in m ∙ one (p (call caller k)) (count_by p (map call_line (of_caller caller (commands_by caller cs)))) where
-    one : (b : Bool) (n : ℕ) → cond b (n + 1) n ≡ cond b 1 0 + n
-    one true n = omega arith
-    one false n = omega arith
-  counted false = omega arith
+-- the normal form of a round counts its lines, and those of one more command
+abbrev calls_in : ℕ → List (List Command) → List Line
+calls_in first lists = map call_line (calls_from first lists)
 
-abbrev count_in : (Line → Bool) → ℕ → ℕ → List Call → ℕ
-count_in p first n cs = count_by p (map call_line (calls_from first (lists_from first n cs)))
+no_calls : (first n : ℕ) → calls_from first (replicate n []) ≡ []
+no_calls first zero = refl
+no_calls first (suc n) = no_calls (first + 1) n
 
-abbrev count_own : (Line → Bool) → ℕ → List Call → ℕ
-count_own p caller cs = count_by p (map call_line (of_caller caller (commands_by caller cs)))
+count_caller : (p : Line → Bool) (first : ℕ) (cs : List Command) (lists : List (List Command)) → count_by p (calls_in first (cs ∷ lists)) ≡ count_by p (map call_line (of_caller first cs)) + count_by p (calls_in (first + 1) lists)
+count_caller p first cs lists =
+    ap (count_by p) (map-append call_line (of_caller first cs) (calls_from (first + 1) lists)) ∙ count_by-append p (map call_line (of_caller first cs)) (calls_in (first + 1) lists)
 
-count_suc : (p : Line → Bool) (first n : ℕ) (cs : List Call) → count_in p first (suc n) cs ≡ count_own p first cs + count_in p (first + 1) n cs
-count_suc p first n cs =
-    ap (count_by p) (map-append call_line (of_caller first (commands_by first cs)) (calls_from (first + 1) (lists_from (first + 1) n cs)))
-    ∙ count_by-append p (map call_line (of_caller first (commands_by first cs))) (map call_line (calls_from (first + 1) (lists_from (first + 1) n cs)))
+count_own : (p : Line → Bool) (caller : ℕ) (cs : List Command) (k : Command) → count_by p (map call_line (of_caller caller (cs ++ k ∷ []))) ≡ count_by p (map call_line (of_caller caller cs)) + cond (p (call caller k)) 1 0
+count_own p caller cs k =
+    ap (count_by p) (ap (map call_line) (map-append (λ (c : Command). (caller, c)) cs (k ∷ [])) ∙ map-append call_line (of_caller caller cs) ((caller, k) ∷ []))
+    ∙ count_by-push p (map call_line (of_caller caller cs)) (call caller k)
 
-count_nil : (p : Line → Bool) (first n : ℕ) → count_in p first n [] ≡ 0
-count_nil p first zero = refl
-count_nil p first (suc n) = let a = count_suc p first n [] in let b = count_nil p (first + 1) n in omega (arith, a, b)
-
-count_out : (p : Line → Bool) (first n c : ℕ) (k : Command) (cs : List Call) → c < first → count_in p first n ((c, k) ∷ cs) ≡ count_in p first n cs
-count_out p first zero c k cs lt = refl
-count_out p first (suc n) c k cs lt =
-    let other : eqb c first ≡ false = ne_eqb c first (λ e. absurd (omega (arith, e))) in
-    let a = count_suc p first n ((c, k) ∷ cs) in
-    let b = count_suc p first n cs in
-    let d : count_own p first ((c, k) ∷ cs) ≡ count_own p first cs = rw other refl in
-    let e = count_out p (first + 1) n c k cs (omega arith) in
-    omega (arith, a, b, d, e)
-
-count_own-hit : (p : Line → Bool) (first : ℕ) (k : Command) (cs : List Call) → count_own p first ((first, k) ∷ cs) ≡ cond (p (call first k)) 1 0 + count_own p first cs
-count_own-hit p first k cs = count_calls p first first k cs ∙ rw (eq-eqb first first refl) refl
-
-count_hit : (p : Line → Bool) (first n i : ℕ) (k : Command) (cs : List Call) → i < n → count_in p first n ((first + i, k) ∷ cs) ≡ cond (p (call (first + i) k)) 1 0 + count_in p first n cs
-count_hit p first zero i k cs lt = absurd (omega arith)
-count_hit p first (suc n) zero k cs lt =
+count_set : (p : Line → Bool) (first : ℕ) (lists : List (List Command)) (i : ℕ) (k : Command) → i < length lists
+    → count_by p (calls_in first (slice_set lists i (slice_index_or lists i [] ++ k ∷ []))) ≡ count_by p (calls_in first lists) + cond (p (call (first + i) k)) 1 0
+count_set p first [] i k lt = absurd (omega arith)
+count_set p first (cs ∷ lists) zero k lt =
     let e : first + 0 ≡ first = omega arith in
-    let a = count_suc p first n ((first, k) ∷ cs) in
-    let b = count_suc p first n cs in
-    let d = count_own-hit p first k cs in
-    let o = count_out p (first + 1) n first k cs (omega arith) in
-    rw e (omega (arith, a, b, d, o))
-count_hit p first (suc n) (suc i) k cs lt =
+    let a = count_caller p first (cs ++ k ∷ []) lists in
+    let b = count_caller p first cs lists in
+    let d = count_own p first cs k in
+    rw e (omega (arith, a, b, d))
+count_set p first (cs ∷ lists) (suc i) k lt =
     let e : first + suc i ≡ first + 1 + i = omega arith in
-    let other : eqb (first + 1 + i) first ≡ false = ne_eqb (first + 1 + i) first (λ h. absurd (omega (arith, h))) in
-    let a = count_suc p first n ((first + 1 + i, k) ∷ cs) in
-    let b = count_suc p first n cs in
-    let d : count_own p first ((first + 1 + i, k) ∷ cs) ≡ count_own p first cs = rw other refl in
-    let h = count_hit p (first + 1) n i k cs (omega arith) in
-    rw e (omega (arith, a, b, d, h))
+    let a = count_caller p first cs (slice_set lists i (slice_index_or lists i [] ++ k ∷ [])) in
+    let b = count_caller p first cs lists in
+    let d = count_set p (first + 1) lists i k (omega arith) in
+    rw e (omega (arith, a, b, d))
 
-below_all : (callers : ℕ) (k : Call) (cs : List Call) → list_all (line_fits callers) (map call_line (k ∷ cs)) ≡ true → (k.0 < callers) × (list_all (line_fits callers) (map call_line cs) ≡ true)
-below_all callers k cs e = let both = and_parts (line_fits callers (call_line k)) (list_all (line_fits callers) (map call_line cs)) e in (ltb-true k.0 callers (and_parts _ _ both.0).0, both.1)
+-- and rounds count theirs
+abbrev of_round : (Line → Bool) → List RoundLine → List (List Command) → ℕ
+of_round p lines lists = cond (p round) 1 0 + (count_by p (map start lines) + count_by p (calls_in 0 lists))
 
-split_one : (b : Bool) (n : ℕ) → cond b (n + 1) n ≡ cond b 1 0 + n
-split_one true n = omega arith
-split_one false n = omega arith
+abbrev of_rounds : (Line → Bool) → List Round → ℕ
+of_rounds p rs = count_by p (lines_of_rounds rs)
 
-count_all : (p : Line → Bool) (callers : ℕ) (cs : List Call) → list_all (line_fits callers) (map call_line cs) ≡ true → count_in p 0 callers cs ≡ count_by p (map call_line cs)
-count_all p callers [] e = count_nil p 0 callers
-count_all p callers (k ∷ cs) e =
-    let below = below_all callers k cs e in
-    let zero_plus : 0 + k.0 ≡ k.0 = omega arith in
-    let hit : count_in p 0 callers (k ∷ cs) ≡ cond (p (call_line k)) 1 0 + count_in p 0 callers cs = rw zero_plus at (count_hit p 0 callers k.0 k.1 cs below.0) in
-    let others = count_all p callers cs below.1 in
-    hit ∙ ap (λ n. cond (p (call_line k)) 1 0 + n) others ∙ sym (count_more p (call_line k) (map call_line cs) ∙ split_one (p (call_line k)) (count_by p (map call_line cs)))
+count_last : (p : Line → Bool) (rs : List Round) (w : OpenRound) → of_rounds p (rs ++ rounded w ∷ []) ≡ of_rounds p rs + of_round p w.lines w.commands
+count_last p rs w =
+    let a = ap (count_by p) (lines_of_rounds-push rs (rounded w)) ∙ count_by-append p (lines_of_rounds rs) (round_lines (rounded w)) in
+    let b = count_by-append p (round ∷ []) (map start w.lines ++ calls_in 0 w.commands) in
+    let c = count_by-append p (map start w.lines) (calls_in 0 w.commands) in
+    let d = count_by-push p [] round in
+    omega (arith, a, b, c, d)
 
--- a round, and rounds
-count_round_lines : (p : Line → Bool) (callers : ℕ) (ls : List Line) (r : Round) → list_all (line_fits callers) ls ≡ true → IsRound callers ls r → count_by p ls ≡ count_by p (round_lines r)
-count_round_lines p callers ls r e h =
-    let fit : list_all (line_fits callers) (map start r.lines ++ map call_line h.calls) ≡ true = rw h.parts at e in
-    let both = and_parts _ _ (sym (list_all-append (line_fits callers) (map start r.lines) (map call_line h.calls)) ∙ fit) in
-    let same : count_by p (map call_line (calls_from 0 r.commands)) ≡ count_by p (map call_line h.calls) = rw h.lists (count_all p callers h.calls both.1) in
-    let a = count_by-append p (map start r.lines) (map call_line h.calls) in
-    let b = count_by-append p (map start r.lines) (map call_line (calls_from 0 r.commands)) in
-    let inner : count_by p (map start r.lines ++ map call_line h.calls) ≡ count_by p (map start r.lines ++ map call_line (calls_from 0 r.commands)) = omega (arith, a, b, same) in
-    rw h.parts (count_more p round (map start r.lines ++ map call_line h.calls) ∙ ap (λ n. cond (p round) (n + 1) n) inner ∙ sym (count_more p round (map start r.lines ++ map call_line (calls_from 0 r.commands))))
+count_added : (p : Line → Bool) (callers : ℕ) (x : Line) (r : Reader) → line_fits callers x ≡ true → length r.open.commands ≡ callers → is_misplaced r x ≡ false
+    → of_rounds p (rounds_in (added callers x r)) ≡ of_rounds p (rounds_in r) + cond (p x) 1 0
+count_added p callers round r fit lists place =
+    let a = count_last p (rounds_in r) (blank callers) in
+    let none : count_by p (calls_in 0 (replicate callers [])) ≡ 0 = ap (λ (cs : List Call). count_by p (map call_line cs)) (no_calls 0 callers) in
+    rw (some_begun r) (omega (arith, a, none))
+count_added p callers (start y) r fit lists place =
+    let a = count_last p r.rounds (with_start y r.open) in
+    let b = count_last p r.rounds r.open in
+    let d = ap (count_by p) (map-append start r.open.lines (y ∷ [])) ∙ count_by-push p (map start r.open.lines) (start y) in
+    let some : eqb r.begun 0 ≡ false = (or_parts _ _ place).0 in
+    rw some (omega (arith, a, b, d))
+count_added p callers (call c k) r fit lists place =
+    let e : 0 + c ≡ c = omega arith in
+    let below : c < length r.open.commands = rw lists (ltb-true _ _ (and_parts _ _ fit).0) in
+    let a = count_last p r.rounds (with_call c k r.open) in
+    let b = count_last p r.rounds r.open in
+    let d = rw e at (count_set p 0 r.open.commands c k below) in
+    let some : eqb r.begun 0 ≡ false = place in
+    rw some (omega (arith, a, b, d))
 
-pub count_normal : (p : Line → Bool) (callers : ℕ) (ls : List Line) (rs : List Round) → list_all (line_fits callers) ls ≡ true → AreRounds callers ls rs → count_by p ls ≡ count_by p (lines_of_rounds rs)
-count_normal p callers ls rs e none = refl
-count_normal p callers ls rs e (more front back before r are is) =
-    let fit = and_parts _ _ (sym (list_all-append (line_fits callers) front back) ∙ e) in
-    let a = count_by-append p front back in
-    let b = count_normal p callers front before fit.0 are in
-    let d = count_round_lines p callers back r fit.1 is in
-    let g = count_by-append p (lines_of_rounds before) (round_lines r) in
-    let h : count_by p (lines_of_rounds (before ++ r ∷ [])) ≡ count_by p (lines_of_rounds before ++ round_lines r) = ap (count_by p) (lines_of_rounds-push before r) in
-    omega (arith, a, b, d, g, h)
+count_all : (p : Line → Bool) (callers : ℕ) (xs : List Line) (r : Reader) → list_all (line_fits callers) xs ≡ true → length r.open.commands ≡ callers → InPlace callers r xs
+    → of_rounds p (rounds_in (all_added callers r xs)) ≡ of_rounds p (rounds_in r) + count_by p xs
+count_all p callers [] r fit lists place = omega arith
+count_all p callers (x ∷ xs) r fit lists place =
+    let both = and_parts (line_fits callers x) (list_all (line_fits callers) xs) fit in
+    let a = count_added p callers x r both.0 lists place.0 in
+    let b = count_all p callers xs (added callers x r) both.1 (lists_added callers x r lists) place.1 in
+    let d = count_by-append p (x ∷ []) xs in
+    let e = count_by-push p [] x in
+    omega (arith, a, b, d, e)
 
 -- all pass where none fails
 none_fails : (q : Line → Bool) (xs : List Line) → list_all q xs ≡ true → count_by (λ x. not (q x)) xs ≡ 0
@@ -183,12 +172,13 @@ have_lists callers ls rs (more front back before r are is) = have_more callers b
 pub text_is_trace : (bytes : List ℕ) (t : Trace) → IsTraceText bytes t → IsTrace t
 text_is_trace bytes t h =
     let c = t.profile.callers in
-    let fails = count_normal (λ x. not (line_fits c x)) c h.lines t.rounds h.kept.each h.rounds in
+    let go = rounds_go c h.lines t.rounds h.kept.each h.rounds h.few in
+    let same : (p : Line → Bool) → of_rounds p t.rounds ≡ count_by p h.lines = λ p. ap (of_rounds p) (sym go.1) ∙ (let all = count_all p c h.lines (fresh c) h.kept.each (length-replicate c []) go.0 in omega (arith, all)) in
     record {
       kept = record {
         limits = h.kept.limits;
-        each = all_pass (line_fits c) (lines_of_rounds t.rounds) (sym fails ∙ none_fails (line_fits c) h.lines h.kept.each);
-        given_once = λ base. let same = count_normal (gives base) c h.lines t.rounds h.kept.each h.rounds in let once = h.kept.given_once base in omega (arith, same, once);
+        each = all_pass (line_fits c) (lines_of_rounds t.rounds) (same (λ x. not (line_fits c x)) ∙ none_fails (line_fits c) h.lines h.kept.each);
+        given_once = λ base. rw (same (gives base)) (h.kept.given_once base);
       };
       lists = have_lists c h.lines t.rounds h.rounds;
       few = h.few;

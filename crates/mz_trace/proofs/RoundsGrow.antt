@@ -5,10 +5,10 @@ use Rattle.std.proofs.lemmas.List.{append-nil, map-append}
 use Rattle.std.proofs.lemmas.Bool.{ne_eqb, eq-eqb}
 use Rattle.mz_lines.specs.declared.command.Command.{Command}
 use Rattle.mz_lines.specs.declared.round_line.RoundLine.{RoundLine}
-use Rattle.mz_trace.specs.declared.round.Round.{Round}
+use Rattle.mz_trace.specs.declared.open_round.OpenRound.{OpenRound}
 use Rattle.mz_lines.specs.declared.line.Line.{Line}
 use Rattle.mz_trace.specs.Rounds.{Call, call_line, commands_by, lists_from, IsRound}
-use Rattle.mz_trace.specs.Reading.{with_start, with_call, blank_round}
+use Rattle.mz_trace.specs.Readers.{blank, rounded, with_start, with_call}
 use Rattle.mz_lines.specs.declared.line.Line.TheVariants.{Round as round, Start as start, Call as call}
 
 -- no commands
@@ -39,7 +39,7 @@ all_others : (first n c : ℕ) (k : Command) (cs : List Call) → c < first → 
 all_others first zero c k cs lt = refl
 all_others first (suc n) c k cs lt = rw (others first c k cs (λ e. absurd (omega arith)), all_others (first + 1) n c k cs (omega arith)) refl
 
-pub lists_from-push :
+lists_from-push :
     (first n i : ℕ) (k : Command) (cs : List Call) → i < n
     → lists_from first n (cs ++ (first + i, k) ∷ []) ≡ slice_set (lists_from first n cs) i (slice_index_or (lists_from first n cs) i [] ++ k ∷ [])
 lists_from-push first zero i k cs lt = absurd (omega arith)
@@ -50,23 +50,24 @@ lists_from-push first (suc n) (suc i) k cs lt =
     let e : first + suc i ≡ first + 1 + i = omega arith in
     rw e (rw (others first (first + 1 + i) k cs (λ h. absurd (omega arith)), lists_from-push (first + 1) n i k cs (omega arith)) refl)
 
+pub pushed : (callers c : ℕ) (k : Command) (cs : List Call) → c < callers
+    → lists_from 0 callers (cs ++ (c, k) ∷ []) ≡ slice_set (lists_from 0 callers cs) c (slice_index_or (lists_from 0 callers cs) c [] ++ k ∷ [])
+pushed callers c k cs lt = let e : 0 + c ≡ c = omega arith in rw e at (lists_from-push 0 callers c k cs lt)
+
 -- a round that begins, with a line at its start, with a command
-abbrev pub round_begins : (callers : ℕ) → IsRound callers (round ∷ []) (blank_round callers)
+abbrev pub round_begins : (callers : ℕ) → IsRound callers (round ∷ []) (rounded (blank callers))
 round_begins callers = record { calls = []; parts = refl; lists = sym (lists_from-nil 0 callers) }
 
-abbrev pub round_starts : (callers : ℕ) (ls : List Line) (r : Round) (x : RoundLine) (h : IsRound callers ls r) → h.calls ≡ [] → IsRound callers (ls ++ start x ∷ []) (with_start x r)
+abbrev pub round_starts : (callers : ℕ) (ls : List Line) (r : OpenRound) (x : RoundLine) (h : IsRound callers ls (rounded r)) → h.calls ≡ [] → IsRound callers (ls ++ start x ∷ []) (rounded (with_start x r))
 round_starts callers ls r x h idle = record {
   calls = [];
   parts = rw (h.parts, idle) (rw (append-nil (map start r.lines), map-append start r.lines (x ∷ [])) (ap (λ (t : List Line). round ∷ t) (sym (append-nil (map start r.lines ++ start x ∷ [])))));
   lists = rw idle at h.lists;
 }
 
-pub round_calls : (callers : ℕ) (ls : List Line) (r : Round) (c : ℕ) (k : Command) → c < callers → IsRound callers ls r → IsRound callers (ls ++ call c k ∷ []) (with_call c k r)
-round_calls callers ls r c k lt h =
-    let e : 0 + c ≡ c = omega arith in
-    let pushed : lists_from 0 callers (h.calls ++ (c, k) ∷ []) ≡ slice_set (lists_from 0 callers h.calls) c (slice_index_or (lists_from 0 callers h.calls) c [] ++ k ∷ []) = rw e at (lists_from-push 0 callers c k h.calls lt) in
-    record {
-      calls = h.calls ++ (c, k) ∷ [];
-      parts = rw h.parts (ap (λ (t : List Line). round ∷ t) (append_assoc (map start r.lines) (map call_line h.calls) (call c k ∷ []) ∙ ap (λ (t : List Line). map start r.lines ++ t) (sym (map-append call_line h.calls ((c, k) ∷ [])))));
-      lists = rw (h.lists, pushed) refl;
-    }
+pub round_calls : (callers : ℕ) (ls : List Line) (r : OpenRound) (c : ℕ) (k : Command) → c < callers → IsRound callers ls (rounded r) → IsRound callers (ls ++ call c k ∷ []) (rounded (with_call c k r))
+round_calls callers ls r c k lt h = record {
+  calls = h.calls ++ (c, k) ∷ [];
+  parts = rw h.parts (ap (λ (t : List Line). round ∷ t) (append_assoc (map start r.lines) (map call_line h.calls) (call c k ∷ []) ∙ ap (λ (t : List Line). map start r.lines ++ t) (sym (map-append call_line h.calls ((c, k) ∷ [])))));
+  lists = rw (h.lists, pushed callers c k h.calls lt) refl;
+}

@@ -15,13 +15,12 @@ use Rattle.mz_lines.specs.RoundLines.{start_fits}
 use Rattle.mz_lines.specs.Commands.{command_fits}
 use Rattle.mz_lines.specs.Lines.{line_fits, gives, command_gives}
 use Rattle.mz_trace.specs.Rounds.{call_line, calls_from, round_lines, lines_of_rounds, HaveLists}
-use Rattle.mz_trace.specs.RunForms.{step_fits, start_record_fits, call_record_fits, round_fits, IsRun}
+use Rattle.mz_trace.specs.RunForms.{entry_fits, start_record_fits, call_record_fits, round_fits, IsRun}
 use Rattle.mz_lines.specs.Answers.{answer_fits}
 use Rattle.mz_trace.specs.RunTexts.{round_of, trace_of}
 use Rattle.mz_trace.specs.Texts.{IsTrace}
 use Rattle.mz_lines.specs.declared.line.Line.TheVariants.{Round as round, Start as start, Call as call}
-use Rattle.mz_trace.proofs.LineIsKept.{count_more}
-use Rattle.mz_trace.proofs.GoodLinesMakeRounds.{count_by-append}
+use Rattle.mz_trace.proofs.Counting.{count_more, count_by-append}
 
 -- the parts of three tests
 and_three : (a b c : Bool) → (a && b && c) ≡ true → (a ≡ true) × (b ≡ true) × (c ≡ true)
@@ -51,14 +50,14 @@ starts_fit : (callers : ℕ) (ds : List StartRecord) → list_all start_record_f
 starts_fit callers [] h = refl
 starts_fit callers (d ∷ ds) h =
     let p = and_parts (start_record_fits d) (list_all start_record_fits ds) h in
-    let q = and_three (start_fits d.line) (list_all step_fits d.steps) (answer_fits d.answer) p.0 in
+    let q = and_three (start_fits d.line) (list_all entry_fits d.steps) (answer_fits d.answer) p.0 in
     and_from _ _ q.0 (starts_fit callers ds p.1)
 
 own_fit : (callers c : ℕ) (ds : List CallRecord) → c < callers → list_all (call_record_fits callers) ds ≡ true → list_all (line_fits callers) (own_lines c ds) ≡ true
 own_fit callers c [] below h = refl
 own_fit callers c (d ∷ ds) below h =
     let p = and_parts (call_record_fits callers d) (list_all (call_record_fits callers) ds) h in
-    let q = and_three (command_fits callers d.command) (list_all step_fits d.steps) (answer_fits d.answer) p.0 in
+    let q = and_three (command_fits callers d.command) (list_all entry_fits d.steps) (answer_fits d.answer) p.0 in
     and_from _ _ (and_from _ _ (lt-ltb _ _ below) q.0) (own_fit callers c ds below p.1)
 
 calls_fit : (callers first : ℕ) (lists : List (List CallRecord)) → first + length lists ≤ callers → all_fit callers lists ≡ true → list_all (line_fits callers) (call_lines first lists) ≡ true

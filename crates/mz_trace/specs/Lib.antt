@@ -1,6 +1,5 @@
 pub mod Rounds
 pub mod Texts
-pub mod Reading
 pub mod Faults
 pub mod Given
 pub mod Readers

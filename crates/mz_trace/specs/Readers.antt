@@ -1,27 +1,29 @@
--- What the reader of traces keeps of the lines that it has read, what one more line adds to that, and what reading comes
--- to. These go as the code goes; the definitions of traces and of bad lines don't need them.
-use Rattle.std.specs.Prelude.{ℕ, ◌≡◌, ◌+◌, ◌<◌, ◌==◌, ◌||◌, ◌++◌, Bool, true, false, nat_le, List, [], ◌∷◌, Option, None, Some, Result, Ok, Err, length, replicate, count_by, if◌then◌else◌}
-use Rattle.std.specs.List.{filter_map, list_any}
+-- What the reader of traces keeps of the lines that it has read, and what reading comes to. These go as the code goes; the
+-- definitions of traces and of bad lines don't need them.
+use Rattle.std.specs.Prelude.{ℕ, ◌≡◌, ◌+◌, ◌<◌, ◌==◌, ◌||◌, ◌++◌, Bool, true, false, nat_le, List, [], ◌∷◌, Option, None, Some, Result, Ok, Err, length, replicate, slice_set, slice_index_or, if◌then◌else◌}
 use Rattle.std.specs.Option.{option_map, option_map_or}
-use Rattle.std.specs.Str.{bytes_eq}
+use Rattle.std.specs.Result.{result_err, result_map_both}
 use Rattle.mz_base.specs.declared.profile.Profile.{Profile}
-use Rattle.mz_words.specs.Lines.{Cut, words_of}
-use Rattle.mz_trace.specs.declared.round.TheConstants.{MOST_ROUNDS}
-use Rattle.mz_trace.specs.declared.round.Round.{Round as Rounded}
-use Rattle.mz_trace.specs.declared.open_round.OpenRound.{OpenRound}
-use Rattle.mz_trace.specs.declared.reader.Reader.{Reader}
-use Rattle.mz_lines.specs.declared.why.Why.{Why}
-use Rattle.mz_lines.specs.declared.why.Why.TheVariants.{OutOfPlace, GivenBefore}
-use Rattle.mz_trace.specs.declared.fault.TraceFault.{TraceFault}
-use Rattle.mz_trace.specs.declared.fault.TraceFault.TheVariants.{Bad, NoMemory}
+use Rattle.mz_words.specs.Lines.{Cut, words_of, is_plain}
+use Rattle.mz_lines.specs.declared.command.Command.{Command}
+use Rattle.mz_lines.specs.declared.round_line.RoundLine.{RoundLine}
 use Rattle.mz_lines.specs.declared.line.Line.{Line}
 use Rattle.mz_lines.specs.declared.line.Line.TheVariants.{Round, Start, Call}
+use Rattle.mz_lines.specs.declared.why.Why.{Why}
+use Rattle.mz_lines.specs.declared.why.Why.TheVariants.{NotPlain, NotTrace, NotSpace, OutOfPlace, GivenBefore}
+use Rattle.mz_lines.specs.LineReading.{line_in}
+use Rattle.mz_lines.specs.Lines.{given_by}
 use Rattle.mz_lines.specs.Spaces.{profile_in}
-use Rattle.mz_lines.specs.Lines.{gives, given_by}
 use Rattle.mz_lines.specs.Whys.{why_number, word_why}
-use Rattle.mz_trace.specs.Faults.{BadLine, why_of, second, later, begins_round, has_callers_line, given_in, is_out_of_place, is_given_before}
-use Rattle.mz_trace.specs.Given.{has_name}
-use Rattle.mz_trace.specs.Reading.{rounds_of, with_line}
+use Rattle.mz_trace.specs.declared.round.TheConstants.{MOST_ROUNDS}
+use Rattle.mz_trace.specs.declared.round.Round.{Round as Rounded}
+use Rattle.mz_trace.specs.declared.trace.Trace.{Trace}
+use Rattle.mz_trace.specs.declared.open_round.OpenRound.{OpenRound}
+use Rattle.mz_trace.specs.declared.reader.Reader.{Reader}
+use Rattle.mz_trace.specs.declared.fault.TraceFault.{TraceFault}
+use Rattle.mz_trace.specs.declared.fault.TraceFault.TheVariants.{Bad, NoMemory}
+use Rattle.mz_trace.specs.Faults.{BadLine, why_of, first}
+use Rattle.mz_trace.specs.Given.{has_name, with_name}
 
 -- the open round as a round, and one with nothing yet
 abbrev pub rounded : OpenRound → Rounded
@@ -30,45 +32,29 @@ rounded r = record { lines = r.lines; commands = r.commands }
 abbrev pub blank : ℕ → OpenRound
 blank callers = record { lines = []; commands = replicate callers [] }
 
+-- with one more line at its start, and with one more command
+abbrev pub with_start : RoundLine → OpenRound → OpenRound
+with_start x r = record { lines = r.lines ++ x ∷ []; commands = r.commands }
+
+abbrev pub with_call : ℕ → Command → OpenRound → OpenRound
+with_call caller command r = record { lines = r.lines; commands = slice_set r.commands caller (slice_index_or r.commands caller [] ++ command ∷ []) }
+
 -- the rounds so far
 abbrev pub rounds_in : Reader → List Rounded
-rounds_in r = if r.begun == 0 then [] else r.rounds ++ rounded r.open ∷ []
+rounds_in r = if r.begun == 0 then r.rounds else r.rounds ++ rounded r.open ∷ []
 
--- before the first round there is none
-abbrev pub IsReady : Reader → Type 0
-IsReady r = r.begun ≡ 0 → r.rounds ≡ []
+-- the names under which blocks were given, with that of a command
+abbrev pub noted : Command → List (List ℕ) → List (List ℕ)
+noted command names = option_map_or (with_name names) (given_by command) names
 
--- the reader has read lines with these words, the last first
-pub record HasRead (callers : ℕ) (before : List (List (List ℕ))) (r : Reader) : Type 0 where
-  pub begun : r.begun ≡ count_by begins_round before
-  pub calling : r.calling ≡ has_callers_line before
-  pub given : (base : List ℕ) → has_name r.given base ≡ list_any (bytes_eq (64 ∷ base)) (filter_map given_in before)
-  pub rounds : rounds_in r ≡ rounds_of callers before
-  pub lists : length r.open.commands ≡ callers
-  pub ready : IsReady r
+-- what is kept before the first line, and with one more line
+abbrev pub fresh : ℕ → Reader
+fresh callers = record { begun = 0; calling = false; given = []; rounds = []; «open» = blank callers }
 
--- it has read some lines
-abbrev pub IsReading : ℕ → Reader → Type 0
-IsReading callers r = (before : List (List (List ℕ))) × HasRead callers before r
-
-abbrev pub is_round : Line → Bool
-is_round Round = true
-is_round (Start x) = false
-is_round (Call caller command) = false
-
-abbrev pub is_call : Line → Bool
-is_call Round = false
-is_call (Start x) = false
-is_call (Call caller command) = true
-
--- the reader with one more line
-pub record Adds (callers : ℕ) (x : Line) (old new : Reader) : Type 0 where
-  pub begun : new.begun ≡ (if is_round x then old.begun + 1 else old.begun)
-  pub calling : new.calling ≡ (if is_round x then false else (is_call x || old.calling))
-  pub given : (base : List ℕ) → has_name new.given base ≡ (gives base x || has_name old.given base)
-  pub rounds : IsReady old → rounds_in new ≡ with_line callers (Some x) (rounds_in old)
-  pub lists : length old.open.commands ≡ callers → length new.open.commands ≡ callers
-  pub ready : IsReady old → IsReady new
+abbrev pub added : ℕ → Line → Reader → Reader
+added callers Round r = record { begun = r.begun + 1; calling = false; given = r.given; rounds = rounds_in r; «open» = blank callers }
+added callers (Start x) r = record r { «open» = with_start x r.open }
+added callers (Call caller command) r = record r { calling = true; given = noted command r.given; «open» = with_call caller command r.open }
 
 -- a line for which there is room
 abbrev pub CanAdd : Reader → Line → Type 0
@@ -90,46 +76,56 @@ name_given (Call caller command) = given_by command
 abbrev pub is_given : Reader → Line → Bool
 is_given r x = option_map_or (has_name r.given) (name_given x) false
 
-abbrev pub reader_why : Reader → Line → Option Why
-reader_why r x = if is_misplaced r x then Some OutOfPlace else if is_given r x then Some GivenBefore else None
+abbrev pub place_why : Reader → Line → Option Why
+place_why r x = if is_misplaced r x then Some OutOfPlace else if is_given r x then Some GivenBefore else None
 
--- the line is added, unless a why of its place holds
-pub record Takes (callers : ℕ) (x : Line) (old new : Reader) (why : Option Why) : Type 0 where
-  pub first : why ≡ reader_why old x
-  pub added : why ≡ None → Adds callers x old new
+-- the first why of a line's words, and of a line
+abbrev pub words_why : ℕ → Reader → List (List ℕ) → Option Why
+words_why callers r words = option_map_or (place_why r) (line_in callers words) (word_why callers words)
 
--- the first why that holds of a later line: of its words, and then of its place
-abbrev pub place_why : List (List (List ℕ)) → List (List ℕ) → Option Why
-place_why before words = if is_out_of_place before words then Some OutOfPlace else if is_given_before before words then Some GivenBefore else None
+abbrev pub cut_why : ℕ → Reader → Cut → Option Why
+cut_why callers r l = if is_plain l then words_why callers r (words_of l.text) else Some NotPlain
 
-abbrev pub words_why : ℕ → List (List (List ℕ)) → List (List ℕ) → Option Why
-words_why callers before words = option_map_or (λ y. Some y) (word_why callers words) (place_why before words)
+-- what is kept with the line that these words are
+abbrev pub with_words : ℕ → Reader → List (List ℕ) → Reader
+with_words callers r words = option_map_or (λ x. added callers x r) (line_in callers words) r
 
--- What reading one more line comes to: the first why that holds of it, and where none does, the line is read.
-pub record ReadsLine (callers : ℕ) (before : List (List (List ℕ))) (words : List (List ℕ)) (r : Reader) (why : Option Why) : Type 0 where
-  pub first : why ≡ words_why callers before words
-  pub read : why ≡ None → HasRead callers (words ∷ before) r
+-- The first why is told; where there is none, this is kept.
+pub record Keeps (first : Option Why) (kept new : Reader) (why : Option Why) : Type 0 where
+  pub told : why ≡ first
+  pub kept_is : why ≡ None → new ≡ kept
 
--- The same of a whole line: the first why, and what is read.
-pub record ReadsCut (callers : ℕ) (before : List (List (List ℕ))) (l : Cut) (r : Reader) (why : Option Why) : Type 0 where
-  pub first : why ≡ why_of (later callers before) l
-  pub read : why ≡ None → HasRead callers (words_of l.text ∷ before) r
+-- What is kept of lines one after the other, of which the first has this number; else the first bad one.
+abbrev pub reading : ℕ → Reader → ℕ → List Cut → Result Reader BadLine
+reading callers r number [] = Ok r
+reading callers r number (l ∷ ls) = option_map_or (λ y. Err (number, y)) (cut_why callers r l) (reading callers (with_words callers r (words_of l.text)) (number + 1) ls)
+
+-- the profile of the second line, or its first why
+abbrev pub second_in : Cut → Result Profile Why
+second_in l = if is_plain l then option_map_or (λ p. Ok p) (profile_in (words_of l.text)) (Err NotSpace) else Err NotPlain
+
+-- what reading a text comes to
+abbrev pub made : Profile → Reader → Trace
+made p r = record { profile = p; rounds = rounds_in r }
+
+abbrev pub text_behind : Result Profile Why → List Cut → Result Trace BadLine
+text_behind (Ok p) ls = result_map_both (made p) (λ b. b) (reading p.callers (fresh p.callers) 3 ls)
+text_behind (Err y) ls = Err (2, y)
+
+abbrev pub text_second : List Cut → Result Trace BadLine
+text_second [] = Err (2, NotSpace)
+text_second (m ∷ ls) = text_behind (second_in m) ls
+
+abbrev pub text_read : List Cut → Result Trace BadLine
+text_read [] = Err (1, NotTrace)
+text_read (l ∷ ls) = option_map_or (λ y. Err (1, y)) (why_of first l) (text_second ls)
 
 -- the number of a bad line, and the number of its first why
 abbrev pub numbers_of : Option BadLine → Option (ℕ × ℕ)
 numbers_of bad = option_map (λ b. (b.0, why_number b.1)) bad
 
--- the fault has the numbers of the first bad line, or memory ran out
-abbrev pub HasNumbers : Option BadLine → TraceFault → Type 0
-HasNumbers bad NoMemory = Unit {0}
-HasNumbers bad (Bad line why) = numbers_of bad ≡ Some (line, why)
-
--- What reading comes to: the value, where no line is bad; else the first bad line.
-abbrev pub ComesTo : {X : Type 0} → Option BadLine → Option X → Result X TraceFault → Type 0
-ComesTo bad value (Ok x) = (bad ≡ None) × (value ≡ Some x)
-ComesTo bad value (Err fault) = HasNumbers bad fault
-
--- the profile of the second line, or the first why that holds of it
-abbrev pub IsSecond : Cut → Result Profile Why → Type 0
-IsSecond l (Ok p) = (why_of second l ≡ None) × (profile_in (words_of l.text) ≡ Some p)
-IsSecond l (Err why) = why_of second l ≡ Some why
+-- the answer is the trace that reading comes to, or the fault has the numbers of the bad line, or memory ran out
+abbrev pub ComesTo : Result Trace BadLine → Result Trace TraceFault → Type 0
+ComesTo wanted (Ok t) = wanted ≡ Ok t
+ComesTo wanted (Err NoMemory) = Unit {0}
+ComesTo wanted (Err (Bad line why)) = numbers_of (result_err wanted) ≡ Some (line, why)

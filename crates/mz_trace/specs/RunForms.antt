@@ -5,7 +5,7 @@ use Rattle.std.specs.List.{list_all, flat_map}
 use Rattle.mz_base.specs.Limits.{IsWithinLimits}
 use Rattle.mz_trace.specs.declared.round.TheConstants.{MOST_ROUNDS}
 use Rattle.mz_lines.specs.declared.command.Command.{Command}
-use Rattle.mz_trace.specs.declared.run.Step.{Step}
+use Rattle.mz_trace.specs.declared.run.RunEntry.{RunEntry}
 use Rattle.mz_trace.specs.declared.run.StartRecord.{StartRecord}
 use Rattle.mz_trace.specs.declared.run.CallRecord.{CallRecord}
 use Rattle.mz_trace.specs.declared.run.RunRound.{RunRound}
@@ -21,14 +21,14 @@ use Rattle.mz_trace.specs.RunTexts.{run_text}
 use Rattle.mz_trace.specs.TailTexts.{listed_fits, statistics_fit, tail_text}
 
 -- records that a run with so many callers can have
-abbrev pub step_fits : Step → Bool
-step_fits e = is_u64 e.ticket && event_fits e.event
+abbrev pub entry_fits : RunEntry → Bool
+entry_fits e = is_u64 e.ticket && event_fits e.event
 
 abbrev pub start_record_fits : StartRecord → Bool
-start_record_fits d = start_fits d.line && list_all step_fits d.steps && answer_fits d.answer
+start_record_fits d = start_fits d.line && list_all entry_fits d.steps && answer_fits d.answer
 
 abbrev pub call_record_fits : ℕ → CallRecord → Bool
-call_record_fits callers d = command_fits callers d.command && list_all step_fits d.steps && answer_fits d.answer
+call_record_fits callers d = command_fits callers d.command && list_all entry_fits d.steps && answer_fits d.answer
 
 -- each round has a section for each caller
 abbrev pub round_fits : ℕ → RunRound → Bool

@@ -3,7 +3,7 @@ use Rattle.std.specs.Prelude.{ℕ, ◌+◌, List, [], ◌∷◌, ◌++◌, map, 
 use Rattle.std.specs.List.{flat_map}
 use Rattle.std.specs.Fmt.{decimal}
 use Rattle.mz_lines.specs.declared.answer.Answer.{Answer}
-use Rattle.mz_trace.specs.declared.run.Step.{Step}
+use Rattle.mz_trace.specs.declared.run.RunEntry.{RunEntry}
 use Rattle.mz_trace.specs.declared.run.StartRecord.{StartRecord}
 use Rattle.mz_trace.specs.declared.run.CallRecord.{CallRecord}
 use Rattle.mz_trace.specs.declared.run.RunRound.{RunRound}
@@ -18,15 +18,15 @@ use Rattle.mz_lines.specs.Answers.{answer_words}
 use Rattle.mz_lines.specs.Spaces.{space_words}
 
 -- an entry: its ticket and its event
-abbrev pub step_words : Step → List (List ℕ)
-step_words e = decimal e.ticket ∷ event_words e.event
+abbrev pub entry_words : RunEntry → List (List ℕ)
+entry_words e = decimal e.ticket ∷ event_words e.event
 
 -- what became of a line: its entries, and the answer behind a `=`
-abbrev pub outcome_lines : List Step → Answer → List (List (List ℕ))
-outcome_lines steps answer = map step_words steps ++ (codes "=" ∷ answer_words answer) ∷ []
+abbrev pub outcome_lines : List RunEntry → Answer → List (List (List ℕ))
+outcome_lines steps answer = map entry_words steps ++ (codes "=" ∷ answer_words answer) ∷ []
 
 -- a record: the words of the line behind a `>`, and what became of it
-abbrev pub record_lines : List (List ℕ) → List Step → Answer → List (List (List ℕ))
+abbrev pub record_lines : List (List ℕ) → List RunEntry → Answer → List (List (List ℕ))
 record_lines words steps answer = (codes ">" ∷ words) ∷ outcome_lines steps answer
 
 abbrev pub start_record_lines : StartRecord → List (List (List ℕ))

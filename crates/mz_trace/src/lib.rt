@@ -35,7 +35,7 @@ pub use mz_lines::{Answer, Command, Line, Names, Renaming, RoundLine, Why};
 pub use parser::parse;
 pub use printer::print_trace;
 pub use round::Round;
-pub use run::{CallRecord, Run, RunRound, StartRecord, Step};
+pub use run::{CallRecord, Run, RunEntry, RunRound, StartRecord};
 pub use run_printer::print_run;
 pub use tail::{Figures, Listed, Statistics, Tail};
 pub use trace::Trace;

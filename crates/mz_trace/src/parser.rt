@@ -1,19 +1,17 @@
 //! From bytes to the trace that they are.
 
-ghost use Rattle.std.specs.Prelude.{◌≡◌, [], ◌<◌, ◌+◌, ◌^◌, Some, None, IfOk, OnOk, IfErr, MatchResult, length};
+ghost use Rattle.std.specs.Prelude.{◌≡◌, ◌<◌, ◌+◌, ◌^◌, None, Ok, IfOk, OnOk, IfErr, MatchResult, length};
 ghost use Rattle.mz_words.specs.Lines.{cut_of, cuts};
-ghost use Rattle.mz_trace.specs.Faults.{Fails, why_of, first, bad_later, bad_line_of};
+ghost use Rattle.mz_trace.specs.Faults.{Fails, why_of, first, bad_line_of};
 ghost use Rattle.mz_trace.specs.declared.trace.Trace.{Trace as trace};
 ghost use Rattle.mz_trace.specs.declared.fault.TraceFault.TheVariants.{NoMemory};
 ghost use Rattle.mz_trace.specs.Texts.{IsTrace, IsTraceText};
-ghost use Rattle.mz_trace.specs.Reading.{rounds_of, behind, trace_in};
-ghost use Rattle.mz_trace.specs.Readers.{ComesTo, IsSecond};
+ghost use Rattle.mz_trace.specs.Readers.{ComesTo, second_in, text_behind, text_read};
 
 use crate::fault::TraceFault;
 use crate::reader::Reader;
-use crate::round::Round;
 use crate::trace::Trace;
-use mz_base::{Items, Profile};
+use mz_base::Profile;
 use mz_lines::Why;
 use mz_lines::laws::line_laws;
 use mz_lines::space::read_space;
@@ -40,7 +38,7 @@ pub fn parse(alloc: Global, bytes: &[u8]) -> Result<Trace, TraceFault>
 
 /// The trace of the lines, one after the other.
 fn read_all(alloc: Global, bytes: &[u8]) -> Result<Trace, TraceFault>
-    ensures { ComesTo (bad_line_of bytes.now) (trace_in (cuts bytes.now)) result }
+    ensures { ComesTo (text_read (cuts bytes.now)) result }
 {
     let Some((first, rest)) = next_line(bytes) else {
         return Err(TraceFault::Bad {
@@ -65,8 +63,7 @@ fn read_all(alloc: Global, bytes: &[u8]) -> Result<Trace, TraceFault>
             return Err(TraceFault::Bad { line: 2, why });
         }
     };
-    let rounds = later_lines(alloc, profile.callers, rest)?;
-    Ok(Trace { profile, rounds })
+    later_lines(alloc, profile, rest)
 }
 
 /// The first why that holds of the first line.
@@ -84,7 +81,7 @@ fn first_why(line: &RawLine<'_>) -> Option<Why>
 
 /// The profile of the second line, or the first why that holds of it.
 fn second_line(alloc: Global, line: &RawLine<'_>) -> Result<Result<Profile, Why>, AllocError>
-    ensures { IfOk result (λ r. IsSecond (cut_of line.now) r) }
+    ensures { IfOk result (λ r. r ≡ second_in (cut_of line.now)) }
 {
     if !is_plain(line) {
         return Ok(Err(Why::NotPlain));
@@ -96,11 +93,12 @@ fn second_line(alloc: Global, line: &RawLine<'_>) -> Result<Result<Profile, Why>
     }
 }
 
-/// The rounds of the lines from the third on.
-fn later_lines(alloc: Global, callers: u32, bytes: &[u8]) -> Result<Items<Round>, TraceFault>
+/// The trace with this profile, of which these are the lines from the third on.
+fn later_lines(alloc: Global, profile: Profile, bytes: &[u8]) -> Result<Trace, TraceFault>
     requires { length bytes.now + 3 < 2 ^ 64 }
-    ensures { ComesTo (bad_later callers [] 3 (cuts bytes.now)) (Some (rounds_of callers (behind [] (cuts bytes.now)))) result }
+    ensures { ComesTo (text_behind (Ok profile) (cuts bytes.now)) result }
 {
+    let callers = profile.callers;
     let mut reader = Reader::new(alloc, callers)?;
     let mut rest = bytes;
     let mut number: u64 = 3;
@@ -113,5 +111,5 @@ fn later_lines(alloc: Global, callers: u32, bytes: &[u8]) -> Result<Items<Round>
         number += 1;
     }
     let rounds = reader.finish()?;
-    Ok(rounds)
+    Ok(Trace { profile, rounds })
 }

@@ -1,10 +1,9 @@
 //! What is kept of the lines that were read, and what the next one adds.
 
-ghost use Rattle.std.specs.Prelude.{◌≡◌, ◌<◌, ◌||◌, ℕ, List, map, [], None, OnOk, IfOk};
+ghost use Rattle.std.specs.Prelude.{◌≡◌, ◌<◌, map, None, OnOk, IfOk, length};
 ghost use Rattle.mz_lines.specs.declared.line.Line.TheVariants.{Round as round, Start as start, Call as call};
-ghost use Rattle.mz_lines.specs.Lines.{command_gives};
-ghost use Rattle.mz_trace.specs.Given.{has_name};
-ghost use Rattle.mz_words.specs.Lines.{cut_of};
+ghost use Rattle.mz_trace.specs.Readers.{noted};
+ghost use Rattle.mz_words.specs.Lines.{cut_of, words_of};
 
 use crate::given::{GivenNames, given_by};
 use crate::open_round::OpenRound;
@@ -36,7 +35,7 @@ pub struct Reader {
 
 /// Notes the name under which a command gives a block.
 fn note_given(given: &mut GivenNames, command: &Command) -> Result<(), AllocError>
-    ensures { OnOk result ((base : List ℕ) → has_name given.new base ≡ (command_gives base command.now || has_name given.old base)) }
+    ensures { OnOk result (given.new ≡ noted command.now given.old) }
 {
     match given_by(command) {
         Some(base) => given.insert(base),
@@ -45,11 +44,11 @@ fn note_given(given: &mut GivenNames, command: &Command) -> Result<(), AllocErro
 }
 
 impl Reader {
-    ghost use Rattle.mz_trace.specs.Readers.{HasRead, IsReading, ReadsLine, ReadsCut, Adds, CanAdd, Takes, IsReady, is_given, is_misplaced, reader_why, rounds_in};
+    ghost use Rattle.mz_trace.specs.Readers.{CanAdd, Keeps, added, cut_why, fresh, is_given, is_misplaced, place_why, rounds_in, with_words, words_why};
 
     /// Nothing was read.
     pub fn new(alloc: Global, callers: u32) -> Result<Reader, AllocError>
-        ensures { IfOk result (λ r. HasRead callers [] r) }
+        ensures { IfOk result (λ r. r ≡ fresh callers) }
     {
         Ok(Reader {
             begun: 0,
@@ -87,7 +86,7 @@ impl Reader {
 
     /// The first why about the line's place.
     fn place_why(&self, line: &Line) -> Option<Why>
-        ensures { result ≡ reader_why self.now line.now }
+        ensures { result ≡ place_why self.now line.now }
     {
         if self.is_misplaced(line) {
             Some(Why::OutOfPlace)
@@ -105,8 +104,8 @@ impl Reader {
         callers: u32,
         line: &RawLine<'_>,
     ) -> Result<Option<Why>, AllocError>
-        requires { IsReading callers self.old }
-        ensures { (before : List (List (List ℕ))) → HasRead callers before self.old → IfOk result (ReadsCut callers before (cut_of line.now) self.new) }
+        requires { length self.old.open.commands ≡ callers }
+        ensures { IfOk result (Keeps (cut_why callers self.old (cut_of line.now)) (with_words callers self.old (words_of line.now.text.now)) self.new) }
     {
         if !is_plain(line) {
             return Ok(Some(Why::NotPlain));
@@ -122,8 +121,8 @@ impl Reader {
         callers: u32,
         words: &[&[u8]],
     ) -> Result<Option<Why>, AllocError>
-        requires { IsReading callers self.old }
-        ensures { (before : List (List (List ℕ))) → HasRead callers before self.old → IfOk result (ReadsLine callers before (map (λ w. w.now) words.now) self.new) }
+        requires { length self.old.open.commands ≡ callers }
+        ensures { IfOk result (Keeps (words_why callers self.old (map (λ w. w.now) words.now)) (with_words callers self.old (map (λ w. w.now) words.now)) self.new) }
     {
         line_laws();
         match read_line(alloc, callers, words)? {
@@ -134,8 +133,8 @@ impl Reader {
 
     /// Adds a line, unless a why about its place holds of it.
     fn take(&mut self, alloc: Global, callers: u32, line: &Line) -> Result<Option<Why>, AllocError>
-        requires { None ≡ reader_why self.old line.now → CanAdd self.old line.now }
-        ensures { IfOk result (Takes callers line.now self.old self.new) }
+        requires { None ≡ place_why self.old line.now → CanAdd self.old line.now }
+        ensures { IfOk result (Keeps (place_why self.old line.now) (added callers line.now self.old) self.new) }
     {
         if let Some(why) = self.place_why(line) {
             return Ok(Some(why));
@@ -147,7 +146,7 @@ impl Reader {
     /// Adds a line.
     fn add(&mut self, alloc: Global, callers: u32, line: &Line) -> Result<(), AllocError>
         requires { CanAdd self.old line.now }
-        ensures { OnOk result (Adds callers line.now self.old self.new) }
+        ensures { OnOk result (self.new ≡ added callers line.now self.old) }
     {
         match line {
             Line::Round => self.begin(alloc, callers),
@@ -158,7 +157,7 @@ impl Reader {
 
     /// A line at the start of a round.
     fn add_start(&mut self, line: RoundLine) -> Result<(), AllocError>
-        ensures { OnOk result ((callers : ℕ) → Adds callers (start line) self.old self.new) }
+        ensures { OnOk result (self.new ≡ added 0 (start line) self.old) }
     {
         self.open.lines.push(line)?;
         Ok(())
@@ -167,7 +166,7 @@ impl Reader {
     /// A command of a caller.
     fn add_call(&mut self, caller: u32, command: Command) -> Result<(), AllocError>
         requires { CanAdd self.old (call caller command) }
-        ensures { OnOk result ((callers : ℕ) → Adds callers (call caller command) self.old self.new) }
+        ensures { OnOk result (self.new ≡ added 0 (call caller command) self.old) }
     {
         note_given(&mut self.given, &command)?;
         self.calling = true;
@@ -178,7 +177,7 @@ impl Reader {
     /// A round begins.
     fn begin(&mut self, alloc: Global, callers: u32) -> Result<(), AllocError>
         requires { self.old.begun < MOST_ROUNDS }
-        ensures { OnOk result (Adds callers round self.old self.new) }
+        ensures { OnOk result (self.new ≡ added callers round self.old) }
     {
         let fresh = OpenRound::new(alloc, callers)?;
         let before = mem::replace(&mut self.open, fresh);
@@ -192,7 +191,6 @@ impl Reader {
 
     /// The rounds that were read.
     pub fn finish(self) -> Result<Items<Round>, AllocError>
-        requires { IsReady self }
         ensures { IfOk result (λ rs. rs ≡ rounds_in self) }
     {
         let Reader {

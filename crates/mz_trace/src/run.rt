@@ -4,7 +4,7 @@ use mz_lines::{Answer, Command, RoundLine};
 
 /// An event with its ticket. Whose it is, the section in which it stands says.
 #[derive(Clone, Copy, Debug, PartialEq, Eq)]
-pub struct Step {
+pub struct RunEntry {
     pub ticket: u64,
     pub event: Event,
 }
@@ -13,7 +13,7 @@ pub struct Step {
 #[derive(Drop, Debug)]
 pub struct StartRecord {
     pub line: RoundLine,
-    pub steps: Items<Step>,
+    pub steps: Items<RunEntry>,
     pub answer: Answer,
 }
 
@@ -21,7 +21,7 @@ pub struct StartRecord {
 #[derive(Drop, Debug)]
 pub struct CallRecord {
     pub command: Command,
-    pub steps: Items<Step>,
+    pub steps: Items<RunEntry>,
     pub answer: Answer,
 }
 

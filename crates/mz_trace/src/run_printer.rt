@@ -3,16 +3,17 @@
 //! Each function but `print_run` adds the text of its name to `out`. After an error a part of that
 //! text may stand there.
 
-ghost use Rattle.std.specs.Prelude.{◌≡◌, ◌++◌, ◌∷◌, IfOk, OnOk, string_bytes, codes, map};
+ghost use Rattle.std.specs.Prelude.{◌≡◌, ◌++◌, ◌∷◌, [], IfOk, OnOk, string_bytes, codes, map};
+ghost use Rattle.std.specs.Fmt.{decimal};
 ghost use Rattle.std.specs.List.{flat_map};
 ghost use Rattle.mz_words.specs.Lines.{line_text};
 ghost use Rattle.mz_trace.specs.declared.tail.Figures.{Figures as figures};
 ghost use Rattle.mz_lines.specs.Answers.{answer_words};
 ghost use Rattle.mz_trace.specs.RunForms.{IsRun, IsTail, IsRunText};
-ghost use Rattle.mz_trace.specs.RunTexts.{outcome_lines, run_text, run_round_lines, sections_from, section_lines, start_record_lines, call_record_lines, step_words};
+ghost use Rattle.mz_trace.specs.RunTexts.{outcome_lines, run_text, run_round_lines, sections_from, section_lines, start_record_lines, call_record_lines, entry_words};
 ghost use Rattle.mz_trace.specs.TailTexts.{tail_text, listed_words, statistics_lines};
 
-use crate::run::{CallRecord, Run, RunRound, StartRecord, Step};
+use crate::run::{CallRecord, Run, RunEntry, RunRound, StartRecord};
 use crate::tail::{Figures, Listed, Statistics};
 use mz_base::Items;
 use mz_lines::Answer;
@@ -109,24 +110,24 @@ fn print_call_record(out: &mut String, outcome: &CallRecord) -> Result<(), Alloc
 }
 
 /// The lines of a record behind its first.
-fn print_outcome(out: &mut String, steps: &[Step], answer: Answer) -> Result<(), AllocError>
+fn print_outcome(out: &mut String, steps: &[RunEntry], answer: Answer) -> Result<(), AllocError>
     ensures { OnOk result (string_bytes out.new ≡ string_bytes out.old ++ flat_map line_text (outcome_lines steps.now answer)) }
 {
     print_steps(out, steps)?;
     print_answer_line(out, answer)
 }
 
-fn print_steps(out: &mut String, steps: &[Step]) -> Result<(), AllocError>
-    ensures { OnOk result (string_bytes out.new ≡ string_bytes out.old ++ flat_map line_text (map step_words steps.now)) }
+fn print_steps(out: &mut String, steps: &[RunEntry]) -> Result<(), AllocError>
+    ensures { OnOk result (string_bytes out.new ≡ string_bytes out.old ++ flat_map line_text (map entry_words steps.now)) }
 {
     for step in steps {
-        print_step(out, step)?;
+        print_entry(out, step)?;
     }
     Ok(())
 }
 
-fn print_step(out: &mut String, step: &Step) -> Result<(), AllocError>
-    ensures { OnOk result (string_bytes out.new ≡ string_bytes out.old ++ line_text (step_words step.now)) }
+fn print_entry(out: &mut String, step: &RunEntry) -> Result<(), AllocError>
+    ensures { OnOk result (string_bytes out.new ≡ string_bytes out.old ++ line_text (entry_words step.now)) }
 {
     let ticket = step.ticket;
     write!(out, "{ticket} ")?;
@@ -183,8 +184,14 @@ fn print_statistics(out: &mut String, statistics: Statistics) -> Result<(), Allo
         max_size_in_use,
         size_allocated,
     } = statistics;
-    writeln!(out, "blocks_in_use {blocks_in_use}")?;
-    writeln!(out, "size_in_use {size_in_use}")?;
-    writeln!(out, "max_size_in_use {max_size_in_use}")?;
-    writeln!(out, "size_allocated {size_allocated}")
+    print_statistic(out, "blocks_in_use", blocks_in_use)?;
+    print_statistic(out, "size_in_use", size_in_use)?;
+    print_statistic(out, "max_size_in_use", max_size_in_use)?;
+    print_statistic(out, "size_allocated", size_allocated)
+}
+
+fn print_statistic(out: &mut String, label: &str, value: u64) -> Result<(), AllocError>
+    ensures { OnOk result (string_bytes out.new ≡ string_bytes out.old ++ line_text (label.now ∷ decimal value ∷ [])) }
+{
+    writeln!(out, "{label} {value}")
 }

@@ -16,11 +16,11 @@ use Rattle.mz_transcript.specs.declared.line.RunLine.{RunLine}
 use Rattle.mz_transcript.specs.declared.line.RunLine.TheVariants as line
 use Rattle.mz_transcript.specs.declared.line.Due.{Due}
 use Rattle.mz_transcript.specs.declared.line.Due.TheVariants as due
-use Rattle.mz_transcript.specs.declared.stage.Book.{Book}
-use Rattle.mz_transcript.specs.declared.stage.Part.{Part}
-use Rattle.mz_transcript.specs.declared.stage.Part.TheVariants.{Outside, Starts, Start, Section, Call}
-use Rattle.mz_transcript.specs.declared.stage.Known.{Known}
-use Rattle.mz_transcript.specs.declared.stage.Known.TheVariants as known
+use Rattle.mz_transcript.specs.declared.book.Book.{Book}
+use Rattle.mz_transcript.specs.declared.part.Part.{Part}
+use Rattle.mz_transcript.specs.declared.part.Part.TheVariants.{Outside, Starts, Start, Section, Call}
+use Rattle.mz_transcript.specs.declared.tail.Known.{Known}
+use Rattle.mz_transcript.specs.declared.tail.Known.TheVariants as known
 use Rattle.mz_transcript.specs.declared.stage.Stage.{Stage}
 use Rattle.mz_transcript.specs.declared.stage.Stage.TheVariants.{First, Second, Rounds, Tail}
 use Rattle.mz_transcript.specs.Stages.{due_of, blank_book, ended, with_round, with_line}

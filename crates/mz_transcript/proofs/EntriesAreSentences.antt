@@ -12,12 +12,12 @@ use Rattle.mz_words.specs.Numbers.{is_u64, number_of, ◌>>=◌}
 use Rattle.mz_words.specs.Lines.{are_visible}
 use Rattle.mz_words.specs.Sentences.{words_fit, sentence, sentence_in, sentence_words}
 use Rattle.mz_lines.specs.Events.{event_fits, event_in}
-use Rattle.mz_trace.specs.declared.run.Step.{Step}
+use Rattle.mz_trace.specs.declared.run.RunEntry.{RunEntry}
 use Rattle.mz_trace.specs.declared.tail.Listed.{Listed}
 use Rattle.mz_trace.specs.TailTexts.{listed_sentence, listed_words, listed_fits}
-use Rattle.mz_trace.specs.RunTexts.{step_words}
-use Rattle.mz_trace.specs.RunForms.{step_fits}
-use Rattle.mz_transcript.specs.Entries.{step_in}
+use Rattle.mz_trace.specs.RunTexts.{entry_words}
+use Rattle.mz_trace.specs.RunForms.{entry_fits}
+use Rattle.mz_transcript.specs.Entries.{entry_in}
 use Rattle.mz_transcript.specs.Listings.{listed_of, listed_in}
 use Rattle.mz_transcript.proofs.TextLaws.{TextLaws, bind_parts, some_same}
 
@@ -41,25 +41,25 @@ pub listed_visible : TextLaws → (b : Listed) → listed_fits b ≡ true → ar
 listed_visible laws b h = laws.words.sentences.visible 0 (listed_sentence b) (lit< tt) h
 
 -- entries
-pub step_again : TextLaws → (e : Step) → step_fits e ≡ true → step_in (step_words e) ≡ Some e
+pub step_again : TextLaws → (e : RunEntry) → entry_fits e ≡ true → entry_in (entry_words e) ≡ Some e
 step_again laws e h =
     let p = and_parts (is_u64 e.ticket) (event_fits e.event) h in
     rw (laws.words.numbers.again e.ticket p.0, laws.lines.events.again e.event p.1) refl
 
-pub step_spelled : TextLaws → (ts : List (List ℕ)) (e : Step) → step_in ts ≡ Some e → (ts ≡ step_words e) × (step_fits e ≡ true)
+pub step_spelled : TextLaws → (ts : List (List ℕ)) (e : RunEntry) → entry_in ts ≡ Some e → (ts ≡ entry_words e) × (entry_fits e ≡ true)
 step_spelled laws [] e h = absurd cc
 step_spelled laws (t ∷ ts) e h =
     let n = bind_parts (number_of t) _ e h in
     let x = bind_parts (event_in ts) _ e n.2 in
     let s = laws.words.numbers.spelled t n.0 n.1 in
     let w = laws.lines.events.spelled ts x.0 x.1 in
-    subst (λ (y : Step). (t ∷ ts ≡ step_words y) × (step_fits y ≡ true)) (some_same _ e x.2)
+    subst (λ (y : RunEntry). (t ∷ ts ≡ entry_words y) × (entry_fits y ≡ true)) (some_same _ e x.2)
     (ap (λ (v : List ℕ). v ∷ ts) s.0 ∙ ap (λ (v : List (List ℕ)). decimal n.0 ∷ v) w.0, and_from _ _ s.1 w.1)
 
-pub step_visible : TextLaws → (e : Step) → step_fits e ≡ true → are_visible (step_words e) ≡ true
+pub step_visible : TextLaws → (e : RunEntry) → entry_fits e ≡ true → are_visible (entry_words e) ≡ true
 step_visible laws e h =
     let p = and_parts (is_u64 e.ticket) (event_fits e.event) h in
     and_from _ _ (laws.words.numbers.visible e.ticket p.0) (laws.lines.events.visible e.event p.1)
 
-pub step_count : TextLaws → (e : Step) → length (step_words e) ≤ 6
+pub step_count : TextLaws → (e : RunEntry) → length (entry_words e) ≤ 6
 step_count laws e = let few = laws.lines.few_events e.event in omega (arith, few)

@@ -3,7 +3,6 @@ pub mod TextLaws
 pub mod EntriesAreSentences
 -- Lines, their words, and the texts that they make.
 pub mod RunLinesAreWords
-pub mod CutsAreText
 -- What is read so far is what was written so far.
 pub mod SectionsGrow
 pub mod StageGrows

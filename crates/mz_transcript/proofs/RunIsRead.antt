@@ -9,7 +9,7 @@ use Rattle.std.proofs.lemmas.Slice.Eq.{bytes_eq-Decides}
 use Rattle.mz_words.specs.Numbers.{is_u64, ◌>>=◌}
 use Rattle.mz_lines.specs.declared.answer.Answer.{Answer}
 use Rattle.mz_lines.specs.declared.command.Command.{Command}
-use Rattle.mz_trace.specs.declared.run.Step.{Step}
+use Rattle.mz_trace.specs.declared.run.RunEntry.{RunEntry}
 use Rattle.mz_trace.specs.declared.run.StartRecord.{StartRecord}
 use Rattle.mz_trace.specs.declared.run.CallRecord.{CallRecord}
 use Rattle.mz_trace.specs.declared.run.RunRound.{RunRound}
@@ -23,7 +23,7 @@ use Rattle.mz_lines.specs.Commands.{command_fits}
 use Rattle.mz_lines.specs.RoundLines.{start_fits}
 use Rattle.mz_lines.specs.Answers.{answer_fits}
 use Rattle.mz_trace.specs.RunTexts.{outcome_lines, start_record_lines, call_record_lines, sections_from, run_round_lines, run_lines}
-use Rattle.mz_trace.specs.RunForms.{step_fits, start_record_fits, call_record_fits, round_fits, IsRun, IsTail}
+use Rattle.mz_trace.specs.RunForms.{entry_fits, start_record_fits, call_record_fits, round_fits, IsRun, IsTail}
 use Rattle.mz_lines.specs.Spaces.{space_words}
 use Rattle.mz_trace.specs.TailTexts.{listed_words, listed_fits, statistics_lines, statistics_fit, tail_lines}
 use Rattle.mz_transcript.specs.declared.line.Counter.TheVariants.{BlocksInUse, SizeInUse, MaxSizeInUse, SizeAllocated}
@@ -31,9 +31,9 @@ use Rattle.mz_transcript.specs.declared.line.RunLine.{RunLine}
 use Rattle.mz_transcript.specs.declared.line.RunLine.TheVariants as line
 use Rattle.mz_transcript.specs.declared.line.Due.{Due}
 use Rattle.mz_transcript.specs.declared.line.Due.TheVariants as due
-use Rattle.mz_transcript.specs.declared.stage.Book.{Book}
-use Rattle.mz_transcript.specs.declared.stage.Part.TheVariants.{Outside, Starts, Start, Section, Call}
-use Rattle.mz_transcript.specs.declared.stage.Known.TheVariants as known
+use Rattle.mz_transcript.specs.declared.book.Book.{Book}
+use Rattle.mz_transcript.specs.declared.part.Part.TheVariants.{Outside, Starts, Start, Section, Call}
+use Rattle.mz_transcript.specs.declared.tail.Known.TheVariants as known
 use Rattle.mz_transcript.specs.declared.stage.Stage.{Stage}
 use Rattle.mz_transcript.specs.declared.stage.Stage.TheVariants.{First, Second, Rounds, Tail}
 use Rattle.mz_transcript.specs.Stages.{due_of, blank_book, opened, ended, with_round, book_named, with_line, words_read}
@@ -61,28 +61,28 @@ line_then laws s d v t ls at few may fits e =
     ∙ ap (λ (o : Option Stage). o >>= λ q. reads_to q ls) e
 
 -- a record
-record Frame (inside : List Step → Stage) (behind : List Step → Answer → Stage) : Type 0 where
-  pub told : (es : List Step) → due_of (inside es) ≡ due.Told
-  pub more : (es : List Step) (e : Step) → with_line (inside es) (line.Entry e) ≡ Some (inside (es ++ e ∷ []))
-  pub ends : (es : List Step) (a : Answer) → with_line (inside es) (line.Answer a) ≡ Some (behind es a)
+record Frame (inside : List RunEntry → Stage) (behind : List RunEntry → Answer → Stage) : Type 0 where
+  pub told : (es : List RunEntry) → due_of (inside es) ≡ due.Told
+  pub more : (es : List RunEntry) (e : RunEntry) → with_line (inside es) (line.Entry e) ≡ Some (inside (es ++ e ∷ []))
+  pub ends : (es : List RunEntry) (a : Answer) → with_line (inside es) (line.Answer a) ≡ Some (behind es a)
 
-outcome_read : TextLaws → (inside : List Step → Stage) (behind : List Step → Answer → Stage) (done es : List Step) (a : Answer) → Frame inside behind → list_all step_fits es ≡ true → answer_fits a ≡ true
+outcome_read : TextLaws → (inside : List RunEntry → Stage) (behind : List RunEntry → Answer → Stage) (done es : List RunEntry) (a : Answer) → Frame inside behind → list_all entry_fits es ≡ true → answer_fits a ≡ true
     → reads_to (inside done) (outcome_lines es a) ≡ Some (behind (done ++ es) a)
 outcome_read laws inside behind done [] a f h k =
     line_then laws (inside done) due.Told (line.Answer a) (behind done a) [] (f.told done) (lit< tt) tt k (f.ends done a)
-    ∙ ap (λ (xs : List Step). Some (behind xs a)) (sym (append-nil done))
+    ∙ ap (λ (xs : List RunEntry). Some (behind xs a)) (sym (append-nil done))
 outcome_read laws inside behind done (e ∷ es) a f h k =
-    let p = and_parts (step_fits e) (list_all step_fits es) h in
+    let p = and_parts (entry_fits e) (list_all entry_fits es) h in
     line_then laws (inside done) due.Told (line.Entry e) (inside (done ++ e ∷ [])) (outcome_lines es a) (f.told done) (lit< tt) tt p.0 (f.more done e)
-    ∙ outcome_read laws inside behind (done ++ e ∷ []) es a f p.1 k ∙ ap (λ (xs : List Step). Some (behind xs a)) (append_assoc done (e ∷ []) es)
+    ∙ outcome_read laws inside behind (done ++ e ∷ []) es a f p.1 k ∙ ap (λ (xs : List RunEntry). Some (behind xs a)) (append_assoc done (e ∷ []) es)
 
 starts_read : TextLaws → (b : Book) (ss ds : List StartRecord) → list_all start_record_fits ds ≡ true → reads_to (Rounds b (Starts ss)) (flat_map start_record_lines ds) ≡ Some (Rounds b (Starts (ss ++ ds)))
 starts_read laws b ss [] h = ap (λ (xs : List StartRecord). Some (Rounds b (Starts xs))) (sym (append-nil ss))
 starts_read laws b ss (d ∷ ds) h =
     let p = and_parts (start_record_fits d) (list_all start_record_fits ds) h in
-    let q = and_three (start_fits d.line) (list_all step_fits d.steps) (answer_fits d.answer) p.0 in
-    let inside = λ (es : List Step). Rounds b (Start ss d.line es) in
-    let behind = λ (es : List Step) (a : Answer). Rounds b (Starts (ss ++ record { line = d.line; steps = es; answer = a } ∷ [])) in
+    let q = and_three (start_fits d.line) (list_all entry_fits d.steps) (answer_fits d.answer) p.0 in
+    let inside = λ (es : List RunEntry). Rounds b (Start ss d.line es) in
+    let behind = λ (es : List RunEntry) (a : Answer). Rounds b (Starts (ss ++ record { line = d.line; steps = es; answer = a } ∷ [])) in
     line_then laws (Rounds b (Starts ss)) due.Start (line.Start d.line) (inside []) (outcome_lines d.steps d.answer ++ flat_map start_record_lines ds) refl (lit< tt) tt q.0 refl
     ∙ then_reads (outcome_lines d.steps d.answer) (flat_map start_record_lines ds) (inside []) (Rounds b (Starts (ss ++ d ∷ [])))
     (outcome_read laws inside behind [] d.steps d.answer (record { told = λ es. refl; more = λ es e. refl; ends = λ es a. refl }) q.1 q.2)
@@ -138,11 +138,11 @@ calls_read : TextLaws → (b : Book) (ss : List StartRecord) (ls : List (List Ca
 calls_read laws b ss ls cs [] ks small h once = ap (λ (xs : List CallRecord). Some (Rounds b (Section ss ls xs))) (sym (append-nil cs))
 calls_read laws b ss ls cs (d ∷ ds) ks small h once =
     let p = and_parts (call_record_fits b.profile.callers d) (list_all (call_record_fits b.profile.callers) ds) h in
-    let q = and_three (command_fits b.profile.callers d.command) (list_all step_fits d.steps) (answer_fits d.answer) p.0 in
+    let q = and_three (command_fits b.profile.callers d.command) (list_all entry_fits d.steps) (answer_fits d.answer) p.0 in
     let n = named_once laws b d.command (commands ds ++ ks) (given_by d.command) refl once in
     let c = with_givens b (given_after b.given (given_by d.command)) in
-    let inside = λ (es : List Step). Rounds c (Call ss ls cs d.command es) in
-    let behind = λ (es : List Step) (a : Answer). Rounds c (Section ss ls (cs ++ record { command = d.command; steps = es; answer = a } ∷ [])) in
+    let inside = λ (es : List RunEntry). Rounds c (Call ss ls cs d.command es) in
+    let behind = λ (es : List RunEntry) (a : Answer). Rounds c (Section ss ls (cs ++ record { command = d.command; steps = es; answer = a } ∷ [])) in
     line_then laws (Rounds b (Section ss ls cs)) (due.Call b.profile.callers) (line.Call d.command) (inside []) (outcome_lines d.steps d.answer ++ flat_map call_record_lines ds) refl small tt q.0
     (ap (λ (o : Option Book). o >>= λ x. Some (Rounds x (Call ss ls cs d.command []))) n.0)
     ∙ then_reads (outcome_lines d.steps d.answer) (flat_map call_record_lines ds) (inside []) (Rounds c (Section ss ls (cs ++ d ∷ [])))

@@ -13,7 +13,7 @@ use Rattle.mz_lines.specs.declared.command.Command.{Command}
 use Rattle.mz_lines.specs.declared.command.Command.TheVariants as command
 use Rattle.mz_lines.specs.declared.round_line.RoundLine.{RoundLine}
 use Rattle.mz_lines.specs.declared.round_line.RoundLine.TheVariants as at
-use Rattle.mz_trace.specs.declared.run.Step.{Step}
+use Rattle.mz_trace.specs.declared.run.RunEntry.{RunEntry}
 use Rattle.mz_trace.specs.declared.tail.Listed.{Listed}
 use Rattle.mz_lines.specs.Commands.{command_in, command_words, command_fits}
 use Rattle.mz_lines.specs.RoundLines.{start_in, start_words, start_fits}
@@ -21,15 +21,15 @@ use Rattle.mz_lines.specs.Spaces.{profile_in, space_words}
 use Rattle.mz_lines.specs.Events.{event_words}
 use Rattle.mz_lines.specs.Answers.{answer_words, answer_fits}
 use Rattle.mz_trace.specs.TailTexts.{listed_words, listed_fits}
-use Rattle.mz_trace.specs.RunTexts.{step_words}
-use Rattle.mz_trace.specs.RunForms.{step_fits}
+use Rattle.mz_trace.specs.RunTexts.{entry_words}
+use Rattle.mz_trace.specs.RunForms.{entry_fits}
 use Rattle.mz_transcript.specs.declared.line.Counter.{Counter}
 use Rattle.mz_transcript.specs.declared.line.Counter.TheVariants.{BlocksInUse, SizeInUse, MaxSizeInUse, SizeAllocated}
 use Rattle.mz_transcript.specs.declared.line.RunLine.{RunLine}
 use Rattle.mz_transcript.specs.declared.line.RunLine.TheVariants as line
 use Rattle.mz_transcript.specs.declared.line.Due.{Due}
 use Rattle.mz_transcript.specs.declared.line.Due.TheVariants as due
-use Rattle.mz_transcript.specs.Entries.{step_in}
+use Rattle.mz_transcript.specs.Entries.{entry_in}
 use Rattle.mz_lines.specs.Answers.{answer_in}
 use Rattle.mz_transcript.specs.Listings.{listed_in}
 use Rattle.mz_transcript.specs.RunLines.{counter_word, heading_of, answer_line_in, entry_line_in, start_line_in, call_line_in, statistic_in, line_in}
@@ -44,7 +44,7 @@ line_words (line.Caller n) = codes "caller" ∷ decimal n ∷ []
 line_words line.End = codes "end" ∷ []
 line_words (line.Start x) = codes ">" ∷ start_words x
 line_words (line.Call k) = codes ">" ∷ command_words k
-line_words (line.Entry e) = step_words e
+line_words (line.Entry e) = entry_words e
 line_words (line.Answer a) = codes "=" ∷ answer_words a
 line_words (line.Block b) = listed_words b
 line_words (line.Statistic k n) = counter_word k ∷ decimal n ∷ []
@@ -55,7 +55,7 @@ LineFits callers (line.Space p) = IsWithinLimits p
 LineFits callers (line.Caller n) = is_u64 n ≡ true
 LineFits callers (line.Start x) = start_fits x ≡ true
 LineFits callers (line.Call k) = command_fits callers k ≡ true
-LineFits callers (line.Entry e) = step_fits e ≡ true
+LineFits callers (line.Entry e) = entry_fits e ≡ true
 LineFits callers (line.Answer a) = answer_fits a ≡ true
 LineFits callers (line.Block b) = listed_fits b ≡ true
 LineFits callers (line.Statistic k n) = is_u64 n ≡ true
@@ -96,10 +96,10 @@ ticket_is_no laws n h = false_from_ne_true _ (λ e.
 caller_again : TextLaws → (n : ℕ) → is_u64 n ≡ true → heading_of (codes "caller") (decimal n ∷ []) ≡ Some (line.Caller n)
 caller_again laws n h = ap (λ (o : Option ℕ). o >>= λ c. Some (line.Caller c)) (laws.words.numbers.again n h)
 
-entry_again : TextLaws → (e : Step) → step_fits e ≡ true → line_in due.Told (step_words e) ≡ Some (line.Entry e)
+entry_again : TextLaws → (e : RunEntry) → entry_fits e ≡ true → line_in due.Told (entry_words e) ≡ Some (line.Entry e)
 entry_again laws e h =
-    ap (λ (t : Bool). cond t (answer_line_in (event_words e.event)) (entry_line_in (step_words e))) (ticket_is_no laws e.ticket (and_parts (is_u64 e.ticket) _ h).0)
-    ∙ ap (λ (o : Option Step). o >>= λ x. Some (line.Entry x)) (step_again laws e h)
+    ap (λ (t : Bool). cond t (answer_line_in (event_words e.event)) (entry_line_in (entry_words e))) (ticket_is_no laws e.ticket (and_parts (is_u64 e.ticket) _ h).0)
+    ∙ ap (λ (o : Option RunEntry). o >>= λ x. Some (line.Entry x)) (step_again laws e h)
 
 pub written_is_read : TextLaws → (d : Due) (v : RunLine) → callers_at d < 2 ^ 64 → MayStand d v → LineFits (callers_at d) v → line_in d (line_words v) ≡ Some v
 written_is_read laws due.First line.First few may h = refl
@@ -191,7 +191,7 @@ read_is_written laws due.Told [] v h = absurd cc
 read_is_written laws due.Told (w ∷ ws) v h =
     behind_word 0 w (codes "=") ws (answer_line_in ws) (entry_line_in (w ∷ ws)) v h
     (λ k. value_spelled 0 (codes "=" ∷ ws) (answer_in ws) line.Answer v k (λ x e. let s = laws.lines.answers.spelled ws x e in (more_words (codes "=") ws _ s.0, s.1)))
-    (λ k. value_spelled 0 (w ∷ ws) (step_in (w ∷ ws)) line.Entry v k (step_spelled laws (w ∷ ws)))
+    (λ k. value_spelled 0 (w ∷ ws) (entry_in (w ∷ ws)) line.Entry v k (step_spelled laws (w ∷ ws)))
 read_is_written laws due.Block [] v h = absurd cc
 read_is_written laws due.Block (w ∷ ws) v h = elim (either_parts (bytes_eq w (codes "block")) _ _ v h) [
   | inl p ↦ value_spelled 0 (w ∷ ws) (listed_in (w ∷ ws)) line.Block v p.1 (listed_spelled laws (w ∷ ws))
@@ -227,7 +227,7 @@ line_plain laws callers (line.Caller n) few h = plain (codes "caller" ∷ decima
 line_plain laws callers line.End few h = refl
 line_plain laws callers (line.Start x) few h = let n = start_count x in plain (codes ">" ∷ start_words x) (and_from _ _ refl (laws.lines.starts.visible x h)) (omega (arith, n))
 line_plain laws callers (line.Call k) few h = let n = command_count k in plain (codes ">" ∷ command_words k) (and_from _ _ refl (laws.lines.commands.visible callers k few h)) (omega (arith, n))
-line_plain laws callers (line.Entry e) few h = let n = step_count laws e in plain (step_words e) (step_visible laws e h) (omega (arith, n))
+line_plain laws callers (line.Entry e) few h = let n = step_count laws e in plain (entry_words e) (step_visible laws e h) (omega (arith, n))
 line_plain laws callers (line.Answer a) few h = let n = laws.lines.few_answers a in plain (codes "=" ∷ answer_words a) (and_from _ _ refl (laws.lines.answers.visible a h)) (omega (arith, n))
 line_plain laws callers (line.Block b) few h = plain (listed_words b) (listed_visible laws b h) (lit≤ tt)
 line_plain laws callers (line.Statistic k n) few h = plain (counter_word k ∷ decimal n ∷ []) (and_from _ _ (counter_visible k) (and_from _ _ (laws.words.numbers.visible n h) refl)) (lit≤ tt)

@@ -23,17 +23,17 @@ use Rattle.mz_lines.specs.RoundLines.{start_words, start_fits}
 use Rattle.mz_lines.specs.Lines.{given_by, command_gives}
 use Rattle.mz_trace.specs.Given.{has_name, with_name}
 use Rattle.mz_lines.specs.Spaces.{space_words}
-use Rattle.mz_trace.specs.RunTexts.{step_words, start_record_lines, section_lines, sections_from, run_round_lines, run_lines}
-use Rattle.mz_trace.specs.RunForms.{step_fits, start_record_fits, call_record_fits, round_fits, IsRun}
+use Rattle.mz_trace.specs.RunTexts.{entry_words, start_record_lines, section_lines, sections_from, run_round_lines, run_lines}
+use Rattle.mz_trace.specs.RunForms.{entry_fits, start_record_fits, call_record_fits, round_fits, IsRun}
 use Rattle.mz_trace.specs.TailTexts.{listed_words, listed_fits, statistics_lines, statistics_fit}
 use Rattle.mz_transcript.specs.declared.line.Counter.TheVariants.{BlocksInUse, SizeInUse, MaxSizeInUse, SizeAllocated}
 use Rattle.mz_transcript.specs.declared.line.RunLine.{RunLine}
 use Rattle.mz_transcript.specs.declared.line.RunLine.TheVariants as line
-use Rattle.mz_transcript.specs.declared.stage.Book.{Book}
-use Rattle.mz_transcript.specs.declared.stage.Part.{Part}
-use Rattle.mz_transcript.specs.declared.stage.Part.TheVariants.{Outside, Starts, Start, Section, Call}
-use Rattle.mz_transcript.specs.declared.stage.Known.{Known}
-use Rattle.mz_transcript.specs.declared.stage.Known.TheVariants as known
+use Rattle.mz_transcript.specs.declared.book.Book.{Book}
+use Rattle.mz_transcript.specs.declared.part.Part.{Part}
+use Rattle.mz_transcript.specs.declared.part.Part.TheVariants.{Outside, Starts, Start, Section, Call}
+use Rattle.mz_transcript.specs.declared.tail.Known.{Known}
+use Rattle.mz_transcript.specs.declared.tail.Known.TheVariants as known
 use Rattle.mz_transcript.specs.declared.stage.Stage.{Stage}
 use Rattle.mz_transcript.specs.declared.stage.Stage.TheVariants.{First, Second, Rounds, Tail}
 use Rattle.mz_transcript.specs.Stages.{due_in, due_of, due_statistic, is_full, opened, ended, with_round, with_given, book_named, in_section, rounds_with, in_tail, with_line}
@@ -48,10 +48,10 @@ Text = List (List (List ℕ))
 abbrev pub part_lines : Part → Text
 part_lines Outside = []
 part_lines (Starts ss) = (codes "round" ∷ []) ∷ flat_map start_record_lines ss
-part_lines (Start ss x es) = (codes "round" ∷ []) ∷ (flat_map start_record_lines ss ++ (codes ">" ∷ start_words x) ∷ map step_words es)
+part_lines (Start ss x es) = (codes "round" ∷ []) ∷ (flat_map start_record_lines ss ++ (codes ">" ∷ start_words x) ∷ map entry_words es)
 part_lines (Section ss ls cs) = (codes "round" ∷ []) ∷ (flat_map start_record_lines ss ++ (sections_from 0 ls ++ section_lines (length ls) cs))
 part_lines (Call ss ls cs k es) =
-    (codes "round" ∷ []) ∷ (flat_map start_record_lines ss ++ (sections_from 0 ls ++ (section_lines (length ls) cs ++ (codes ">" ∷ command_words k) ∷ map step_words es)))
+    (codes "round" ∷ []) ∷ (flat_map start_record_lines ss ++ (sections_from 0 ls ++ (section_lines (length ls) cs ++ (codes ">" ∷ command_words k) ∷ map entry_words es)))
 
 abbrev pub known_lines : Known → Text
 known_lines known.Nothing = []
@@ -98,9 +98,9 @@ pub record SectionFits (callers : ℕ) (ss : List StartRecord) (ls : List (List 
 abbrev pub PartFits : ℕ → Part → Type 0
 PartFits callers Outside = Unit {0}
 PartFits callers (Starts ss) = list_all start_record_fits ss ≡ true
-PartFits callers (Start ss x es) = (list_all start_record_fits ss ≡ true) × ((start_fits x && list_all step_fits es) ≡ true)
+PartFits callers (Start ss x es) = (list_all start_record_fits ss ≡ true) × ((start_fits x && list_all entry_fits es) ≡ true)
 PartFits callers (Section ss ls cs) = SectionFits callers ss ls cs
-PartFits callers (Call ss ls cs k es) = SectionFits callers ss ls cs × ((command_fits callers k && list_all step_fits es) ≡ true)
+PartFits callers (Call ss ls cs k es) = SectionFits callers ss ls cs × ((command_fits callers k && list_all entry_fits es) ≡ true)
 
 -- each name that was given is kept, and was given once
 abbrev pub NamesOnce : List (List ℕ) → List Command → Type 0
@@ -154,8 +154,8 @@ unless_then s v false x f h = h refl
 pub push_all : {A : Type 0} (p : A → Bool) (xs : List A) (x : A) → list_all p xs ≡ true → p x ≡ true → list_all p (xs ++ x ∷ []) ≡ true
 push_all p xs x h k = list_all-append p xs (x ∷ []) ∙ and_from _ _ h (and_from _ _ k refl)
 
-push_steps : (a : Bool) (es : List _) (e : _) → (a && list_all step_fits es) ≡ true → step_fits e ≡ true → (a && list_all step_fits (es ++ e ∷ [])) ≡ true
-push_steps a es e h k = let p = and_parts a (list_all step_fits es) h in and_from _ _ p.0 (push_all step_fits es e p.1 k)
+push_steps : (a : Bool) (es : List _) (e : _) → (a && list_all entry_fits es) ≡ true → entry_fits e ≡ true → (a && list_all entry_fits (es ++ e ∷ [])) ≡ true
+push_steps a es e h k = let p = and_parts a (list_all entry_fits es) h in and_from _ _ p.0 (push_all entry_fits es e p.1 k)
 
 same_names : (given : List (List ℕ)) (ks js : List Command) → js ≡ ks → NamesOnce given ks → NamesOnce given js
 same_names given ks js e h = λ base. ap (count_by (command_gives base)) e ∙ h base

@@ -1,12 +1,13 @@
 -- What reading a whole text comes to is the run that it is the text of, or the first bad line.
-use Rattle.std.proofs.Common.{◌≡◌, ℕ, suc, ◌+◌, ◌<◌, ◌≤◌, ◌^◌, Bool, true, List, [], ◌∷◌, ◌++◌, map, length, take, drop, cond, arith, refl, sym, ap, subst, ◌∙◌, lit<, Option, Some, None}
-use Rattle.std.specs.Prelude.{Result, Ok, Err, MatchResult, IfOk, IfErr}
+use Rattle.std.proofs.Common.{◌≡◌, ℕ, suc, ◌+◌, ◌<◌, ◌≤◌, ◌^◌, Bool, true, List, [], ◌∷◌, ◌++◌, map, length, take, drop, eqb, leb, cond, arith, refl, sym, ap, subst, ◌∙◌, lit<, Option, Some, None}
+use Rattle.std.specs.Prelude.{count_by, Result, Ok, Err, MatchResult, IfOk, IfErr}
 use Rattle.std.specs.List.{list_all, flat_map, join_with_byte}
-use Rattle.std.proofs.lemmas.Bool.{and_parts, and_from}
+use Rattle.std.proofs.lemmas.Bool.{and_parts, and_from, leb-true, le-leb}
 use Rattle.std.proofs.lemmas.List.{append_assoc, append-nil, map-append, length-append, length-map, take-append-le, take-append-drop}
 use Rattle.std.proofs.lemmas.List.Concat.{flat_map-append}
+use Rattle.std.proofs.lemmas.List.Splits.{length-slice_split}
 use Rattle.mz_words.specs.Numbers.{◌>>=◌}
-use Rattle.mz_words.specs.Lines.{Cut, cuts, words_of, is_short, line_of, line_text}
+use Rattle.mz_words.specs.Lines.{Cut, cuts, words_of, is_short, line_of, line_text, are_visible}
 use Rattle.mz_trace.specs.declared.run.Run.{Run}
 use Rattle.mz_trace.specs.declared.tail.Figures.{Figures}
 use Rattle.mz_trace.specs.RunTexts.{run_lines, run_text}
@@ -17,19 +18,34 @@ use Rattle.mz_transcript.specs.declared.fault.RunFault.TheVariants as fault
 use Rattle.mz_transcript.specs.declared.line.RunLine.{RunLine}
 use Rattle.mz_transcript.specs.declared.line.Due.{Due}
 use Rattle.mz_transcript.specs.declared.line.Due.TheVariants as due
-use Rattle.mz_transcript.specs.declared.stage.Part.TheVariants.{Section}
-use Rattle.mz_transcript.specs.declared.stage.Known.TheVariants as known
+use Rattle.mz_transcript.specs.declared.part.Part.TheVariants.{Section}
+use Rattle.mz_transcript.specs.declared.tail.Known.TheVariants as known
 use Rattle.mz_transcript.specs.declared.stage.Stage.{Stage}
 use Rattle.mz_transcript.specs.declared.stage.Stage.TheVariants.{First, Rounds, Tail}
 use Rattle.mz_transcript.specs.RunLines.{line_in}
 use Rattle.mz_transcript.specs.Stages.{due_of, with_line, words_read, stage_read, RunAndTail, Outcome, good, bad, finished, after_line, reading, reading_of, FaultIs}
 use Rattle.mz_transcript.specs.RunFaults.{BeginsRun, IsFirstBadLine, HasNoRun, TellsFirstBadLine}
 use Rattle.mz_transcript.proofs.TextLaws.{TextLaws, bind_parts, some_same, when_parts}
-use Rattle.mz_transcript.proofs.CutsAreText.{lines_are_text, text_is_cut, ended_is_line, plain_is_short}
 use Rattle.mz_transcript.proofs.RunLinesAreWords.{callers_at, read_is_written, are_plain, line_plain}
 use Rattle.mz_transcript.proofs.StageGrows.{Text, Valid, written, Sound, line_sound}
 use Rattle.mz_transcript.proofs.RunIsRead.{reads_to, then_reads, run_read}
 use Rattle.mz_transcript.proofs.AnyStageCanEnd.{any_stage_can_end}
+
+-- lines of plain words are cut again
+text_is_cut : TextLaws → (lines : List (List (List ℕ))) → list_all are_plain lines ≡ true → cuts (flat_map line_text lines) ≡ map line_of lines
+text_is_cut laws [] h = refl
+text_is_cut laws (ws ∷ lines) h =
+    let p = and_parts (are_plain ws) (list_all are_plain lines) h in
+    laws.words.lines.cut ws (flat_map line_text lines) (and_parts (are_visible ws) (leb (length ws) 12) p.0).0 ∙ ap (λ (x : List Cut). line_of ws ∷ x) (text_is_cut laws lines p.1)
+
+-- and a line of plain words is short
+plain_is_short : TextLaws → (w : List ℕ) (ws : List (List ℕ)) → are_plain (w ∷ ws) ≡ true → (is_short (line_of (w ∷ ws)) ≡ true) × (words_of (join_with_byte 32 (w ∷ ws)) ≡ w ∷ ws)
+plain_is_short laws w ws h =
+    let p = and_parts (are_visible (w ∷ ws)) (leb (length (w ∷ ws)) 12) h in
+    let again = laws.words.lines.words w ws p.0 in
+    let count = length-slice_split (λ b. eqb b 32) (join_with_byte 32 (w ∷ ws)) in
+    let same : length (words_of (join_with_byte 32 (w ∷ ws))) ≡ length (w ∷ ws) = ap length again in
+    (le-leb (count_by (λ b. eqb b 32) (join_with_byte 32 (w ∷ ws))) 11 (omega (arith, count, same, leb-true _ _ p.1)), again)
 
 -- what is read of lines
 pub record Grown (s : Stage) (lines : Text) (t : Stage) : Type 0 where
@@ -99,16 +115,16 @@ record Stopped (s : Stage) (n : ℕ) (ls : List Cut) (o : Outcome) : Type 0 wher
   pub reads : reads_to s lines ≡ Some at
   pub stops : Stops at (n + length lines) rest o
 
-line_read : (s : Stage) (l : Cut) (t : Stage) → stage_read s l ≡ Some t → (l ≡ line_of (words_of l.text)) × (words_read s (words_of l.text) ≡ Some t)
-line_read s l t e = let p = when_parts (is_short l) (words_read s (words_of l.text)) t e in (ended_is_line l (and_parts l.ended _ p.0).0, p.1)
+line_read : TextLaws → (s : Stage) (l : Cut) (t : Stage) → stage_read s l ≡ Some t → (l ≡ line_of (words_of l.text)) × (words_read s (words_of l.text) ≡ Some t)
+line_read laws s l t e = let p = when_parts (is_short l) (words_read s (words_of l.text)) t e in (laws.words.lines.ended l (and_parts l.ended _ p.0).0, p.1)
 
-stopped_at : (s : Stage) (n : ℕ) (l : Cut) (ls : List Cut) (o : Option Stage) → stage_read s l ≡ o → ((t : Stage) → Stopped t (n + 1) ls (reading t (n + 1) ls))
+stopped_at : TextLaws → (s : Stage) (n : ℕ) (l : Cut) (ls : List Cut) (o : Option Stage) → stage_read s l ≡ o → ((t : Stage) → Stopped t (n + 1) ls (reading t (n + 1) ls))
     → Stopped s n (l ∷ ls) (after_line (λ t. reading t (n + 1) ls) n o)
-stopped_at s n l ls None e go =
+stopped_at laws s n l ls None e go =
     let same : n ≡ n + 0 = omega arith in record { lines = []; rest = l ∷ ls; at = s; parts = refl; reads = refl; stops = (ap bad same, e) }
-stopped_at s n l ls (Some t) e go =
+stopped_at laws s n l ls (Some t) e go =
     let r = go t in
-    let q = line_read s l t e in
+    let q = line_read laws s l t e in
     let count : n + 1 + length r.lines ≡ n + suc (length r.lines) = omega arith in
     record {
       lines = words_of l.text ∷ r.lines;
@@ -119,9 +135,9 @@ stopped_at s n l ls (Some t) e go =
       stops = subst (λ (m : ℕ). Stops r.at m r.rest (reading t (n + 1) ls)) count r.stops;
     }
 
-stopped : (ls : List Cut) (s : Stage) (n : ℕ) → Stopped s n ls (reading s n ls)
-stopped [] s n = let same : n ≡ n + 0 = omega arith in record { lines = []; rest = []; at = s; parts = refl; reads = refl; stops = ap (finished s) same }
-stopped (l ∷ ls) s n = stopped_at s n l ls (stage_read s l) refl (λ t. stopped ls t (n + 1))
+stopped : TextLaws → (ls : List Cut) (s : Stage) (n : ℕ) → Stopped s n ls (reading s n ls)
+stopped laws [] s n = let same : n ≡ n + 0 = omega arith in record { lines = []; rest = []; at = s; parts = refl; reads = refl; stops = ap (finished s) same }
+stopped laws (l ∷ ls) s n = stopped_at laws s n l ls (stage_read s l) refl (λ t. stopped laws ls t (n + 1))
 
 -- the text of a run is read as that run
 whole_text : (r : Run) (t : Figures) → run_text r ++ tail_text t ≡ flat_map line_text (run_lines r ++ tail_lines t)
@@ -155,11 +171,11 @@ ended_text laws bytes r t lines parts reads =
     record {
       run = g.valid.0;
       tail = record { each = g.valid.1; numbers = g.valid.2 };
-      spelled = lines_are_text bytes lines parts ∙ ap (flat_map line_text) (sym g.written_is) ∙ sym (whole_text r t);
+      spelled = laws.words.lines.same bytes (flat_map line_text lines) (parts ∙ sym (text_is_cut laws lines g.plain)) ∙ ap (flat_map line_text) (sym g.written_is) ∙ sym (whole_text r t);
     }
 
 read_is_text : TextLaws → (bytes : List ℕ) (r : Run) (t : Figures) → reading_of bytes ≡ good (r, t) → IsRunText bytes r t
-read_is_text laws bytes r t e = at_end (stopped (cuts bytes) First 1) where
+read_is_text laws bytes r t e = at_end (stopped laws (cuts bytes) First 1) where
   behind : (lines : Text) (rest : List Cut) (at : Stage) → cuts bytes ≡ map line_of lines ++ rest → reads_to First lines ≡ Some at → Stops at (1 + length lines) rest (reading First 1 (cuts bytes)) → IsRunText bytes r t
   behind lines [] at parts reads stops =
       ended_text laws bytes r t lines (parts ∙ append-nil _) (reads ∙ ap (λ (x : Stage). Some x) (finished_is at (1 + length lines) r t (sym e ∙ stops)))
@@ -220,7 +236,7 @@ ends laws bytes lines (l ∷ ls) at o parts reads stops b =
 
 first_bad : TextLaws → (bytes : List ℕ) (n : ℕ) → reading_of bytes ≡ bad n → IsFirstBadLine bytes n
 first_bad laws bytes n e =
-    let c = stopped (cuts bytes) First 1 in
+    let c = stopped laws (cuts bytes) First 1 in
     let stops = subst (λ (o : Outcome). Stops c.at (1 + length c.lines) c.rest o) e c.stops in
     let number = stop_number c.at (1 + length c.lines) n c.rest stops in
     record {

@@ -12,7 +12,7 @@ use Rattle.mz_words.specs.Numbers.{number_of, ◌>>=◌}
 use Rattle.mz_lines.specs.Commands.{command_in}
 use Rattle.mz_lines.specs.RoundLines.{start_in}
 use Rattle.mz_lines.specs.Spaces.{profile_in}
-use Rattle.mz_transcript.specs.Entries.{step_in}
+use Rattle.mz_transcript.specs.Entries.{entry_in}
 use Rattle.mz_lines.specs.Answers.{answer_in}
 use Rattle.mz_transcript.specs.Listings.{listed_in}
 
@@ -67,7 +67,7 @@ abbrev pub answer_line_in : List (List ℕ) → Option RunLine
 answer_line_in ws = answer_in ws >>= λ a. Some (line.Answer a)
 
 abbrev pub entry_line_in : List (List ℕ) → Option RunLine
-entry_line_in ws = step_in ws >>= λ e. Some (line.Entry e)
+entry_line_in ws = entry_in ws >>= λ e. Some (line.Entry e)
 
 abbrev pub told_in : List (List ℕ) → Option RunLine
 told_in [] = None

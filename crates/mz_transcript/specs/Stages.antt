@@ -7,7 +7,7 @@ use Rattle.mz_words.specs.Lines.{Cut, cuts, words_of, is_short}
 use Rattle.mz_trace.specs.declared.round.TheConstants.{MOST_ROUNDS}
 use Rattle.mz_lines.specs.declared.command.Command.{Command}
 use Rattle.mz_lines.specs.declared.round_line.RoundLine.{RoundLine}
-use Rattle.mz_trace.specs.declared.run.Step.{Step}
+use Rattle.mz_trace.specs.declared.run.RunEntry.{RunEntry}
 use Rattle.mz_trace.specs.declared.run.StartRecord.{StartRecord}
 use Rattle.mz_trace.specs.declared.run.CallRecord.{CallRecord}
 use Rattle.mz_trace.specs.declared.run.RunRound.{RunRound}
@@ -24,11 +24,11 @@ use Rattle.mz_transcript.specs.declared.line.RunLine.{RunLine}
 use Rattle.mz_transcript.specs.declared.line.RunLine.TheVariants as line
 use Rattle.mz_transcript.specs.declared.line.Due.{Due}
 use Rattle.mz_transcript.specs.declared.line.Due.TheVariants as due
-use Rattle.mz_transcript.specs.declared.stage.Book.{Book}
-use Rattle.mz_transcript.specs.declared.stage.Part.{Part}
-use Rattle.mz_transcript.specs.declared.stage.Part.TheVariants.{Outside, Starts, Start, Section, Call}
-use Rattle.mz_transcript.specs.declared.stage.Known.{Known}
-use Rattle.mz_transcript.specs.declared.stage.Known.TheVariants as known
+use Rattle.mz_transcript.specs.declared.book.Book.{Book}
+use Rattle.mz_transcript.specs.declared.part.Part.{Part}
+use Rattle.mz_transcript.specs.declared.part.Part.TheVariants.{Outside, Starts, Start, Section, Call}
+use Rattle.mz_transcript.specs.declared.tail.Known.{Known}
+use Rattle.mz_transcript.specs.declared.tail.Known.TheVariants as known
 use Rattle.mz_transcript.specs.declared.stage.Stage.{Stage}
 use Rattle.mz_transcript.specs.declared.stage.Stage.TheVariants.{First, Second, Rounds, Tail}
 use Rattle.mz_transcript.specs.RunLines.{line_in}
@@ -100,7 +100,7 @@ in_starts b ss (line.Start x) = Some (Rounds b (Start ss x []))
 in_starts b ss (line.Caller n) = if n == 0 then Some (Rounds b (Section ss [] [])) else None
 in_starts b ss _ = None
 
-abbrev pub start_told : Book → List StartRecord → RoundLine → List Step → RunLine → Option Stage
+abbrev pub start_told : Book → List StartRecord → RoundLine → List RunEntry → RunLine → Option Stage
 start_told b ss x es (line.Entry e) = Some (Rounds b (Start ss x (es ++ e ∷ [])))
 start_told b ss x es (line.Answer a) = Some (Rounds b (Starts (ss ++ record { line = x; steps = es; answer = a } ∷ [])))
 start_told b ss x es _ = None
@@ -115,7 +115,7 @@ in_section b ss ls cs _ = None
 abbrev pub call_closed : Book → List StartRecord → List (List CallRecord) → List CallRecord → CallRecord → Option Stage
 call_closed b ss ls cs d = Some (Rounds b (Section ss ls (cs ++ d ∷ [])))
 
-abbrev pub call_told : Book → List StartRecord → List (List CallRecord) → List CallRecord → Command → List Step → RunLine → Option Stage
+abbrev pub call_told : Book → List StartRecord → List (List CallRecord) → List CallRecord → Command → List RunEntry → RunLine → Option Stage
 call_told b ss ls cs k es (line.Entry e) = Some (Rounds b (Call ss ls cs k (es ++ e ∷ [])))
 call_told b ss ls cs k es (line.Answer a) = call_closed b ss ls cs (record { command = k; steps = es; answer = a })
 call_told b ss ls cs k es _ = None

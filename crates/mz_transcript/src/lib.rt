@@ -7,19 +7,25 @@
 //!
 //! - `entries`, `listings`: what the lines of a run have that `mz_lines` has not, from their words.
 //! - `line`: the lines of a run, from their words, and which of them may come next.
-//! - `stage`: what stands of a run so far, and what the next line adds.
+//! - `book`, `part`, `tail`, `stage`: what stands of a run so far: the rounds that are closed, what is
+//!   open of one, and what stands behind the rounds.
+//! - `rounds`: what the next line adds to the rounds.
 //! - `parser`: the whole text.
 //! - `fault`: why bytes are no printed run.
 //! - `laws`: what the definitions mean, as contracts of functions that do nothing.
 #![tactic(auto)]
 
+mod book;
 mod entries;
 pub mod fault;
 pub mod laws;
 mod line;
 mod listings;
 mod parser;
+mod part;
+mod rounds;
 mod stage;
+mod tail;
 
 pub use fault::RunFault;
 pub use parser::parse_run;

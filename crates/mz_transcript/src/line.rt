@@ -4,14 +4,14 @@ ghost use Rattle.std.specs.Prelude.{◌≡◌, IfOk, map};
 ghost use Rattle.mz_words.specs.Lines.{words_of};
 ghost use Rattle.mz_transcript.specs.RunLines.{answer_line_in, bare_heading, block_in, call_line_in, call_or_heading_in, caller_heading, counted, counter_word, entry_line_in, first_in, heading_in, heading_of, line_in, listed_line_in, space_in, start_line_in, start_or_heading_in, statistic_in, told_in};
 
-use crate::entries::read_step;
+use crate::entries::read_entry;
 use crate::listings::read_listed;
 use mz_base::Profile;
 use mz_lines::answer::read_answer;
 use mz_lines::command::read_command;
 use mz_lines::round_line::read_start;
 use mz_lines::space::read_space;
-use mz_trace::{Answer, Command, Listed, RoundLine, Step};
+use mz_trace::{Answer, Command, Listed, RoundLine, RunEntry};
 use mz_words::numbers::number;
 use mz_words::words;
 use std::alloc::{AllocError, Global};
@@ -57,7 +57,7 @@ pub enum RunLine {
     /// A command, behind its `>`.
     Call { command: Command },
     /// An entry of the record that is open.
-    Entry { entry: Step },
+    Entry { entry: RunEntry },
     /// The answer that ends the record.
     Answer { answer: Answer },
     /// A live block.
@@ -267,7 +267,7 @@ fn read_answer_line(alloc: Global, words: &[&[u8]]) -> Result<Option<RunLine>, A
 fn read_entry_line(alloc: Global, words: &[&[u8]]) -> Result<Option<RunLine>, AllocError>
     ensures { IfOk result (λ o. o ≡ entry_line_in (map (λ w. w.now) words.now)) }
 {
-    match read_step(alloc, words)? {
+    match read_entry(alloc, words)? {
         None => Ok(None),
         Some(entry) => Ok(Some(RunLine::Entry { entry })),
     }

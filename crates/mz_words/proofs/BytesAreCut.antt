@@ -1,16 +1,41 @@
 -- Bytes that are cut into lines.
-use Rattle.std.proofs.Common.{◌≡◌, ◌≢◌, ℕ, suc, ◌+◌, ◌-◌, ◌<◌, ◌≤◌, Bool, true, false, List, [], ◌∷◌, length, take, drop, eqb, ltb, cond, arith, refl, sym, ap, ◌∙◌, inl, inr, Some, None}
+use Rattle.std.proofs.Common.{◌≡◌, ◌≢◌, ℕ, suc, ◌+◌, ◌-◌, ◌<◌, ◌≤◌, Bool, true, false, List, [], ◌∷◌, ◌++◌, length, take, drop, eqb, ltb, cond, arith, refl, sym, ap, ◌∙◌, inl, inr, Some, None}
 use Rattle.std.specs.Prelude.{position}
 use Rattle.std.specs.List.{position_or_len}
-use Rattle.std.proofs.lemmas.Bool.{cases_Bool, ltb-true, ltb-false, eqb-false}
+use Rattle.std.proofs.lemmas.Bool.{cases_Bool, ltb-true, ltb-false, eqb-false, eqb-true}
 use Rattle.std.proofs.lemmas.List.{take_all, length-drop, nil_from_length}
-use Rattle.mz_words.specs.Lines.{Cut, cuts}
+use Rattle.std.proofs.lemmas.List.Splits.{join_with_byte-slice_split}
+use Rattle.mz_words.specs.Lines.{Cut, longer, cuts, words_of, line_of}
 
 abbrev pub at_feed : List ℕ → ℕ
 at_feed bs = position_or_len (λ b. eqb b 10) bs
 
 abbrev pub ended_by : Bool → List ℕ → Cut
 ended_by ended text = record { text = text; ended = ended }
+
+-- the lines give the bytes back, so that bytes with the same lines are the same
+abbrev joined : List Cut → List ℕ
+joined [] = []
+joined (l ∷ ls) = l.text ++ (cond l.ended (10 ∷ []) [] ++ joined ls)
+
+joined-longer : (b : ℕ) (ls : List Cut) → joined (longer b ls) ≡ b ∷ joined ls
+joined-longer b [] = refl
+joined-longer b (l ∷ ls) = refl
+
+joined-cuts : (bs : List ℕ) → joined (cuts bs) ≡ bs
+joined-cuts [] = refl
+joined-cuts (b ∷ bs) =
+    elim (cases_Bool (eqb b 10)) [
+      | inl e ↦ rw e (rw (joined-cuts bs) (ap (λ (x : ℕ). x ∷ bs) (sym (eqb-true b 10 e))))
+      | inr e ↦ rw e (joined-longer b (cuts bs) ∙ ap (λ (x : List ℕ). b ∷ x) (joined-cuts bs))
+    ]
+
+pub same_cuts : (bs cs : List ℕ) → cuts bs ≡ cuts cs → bs ≡ cs
+same_cuts bs cs e = sym (joined-cuts bs) ∙ ap joined e ∙ joined-cuts cs
+
+-- a line that is ended is one of its words
+pub ended_is_line : (l : Cut) → l.ended ≡ true → l ≡ line_of (words_of l.text)
+ended_is_line l e = ap (λ (t : Bool). ended_by t l.text) e ∙ ap (ended_by true) (sym (join_with_byte-slice_split 32 l.text))
 
 -- one byte further
 at_feed-cons : (b : ℕ) (bs : List ℕ) → eqb b 10 ≡ false → at_feed (b ∷ bs) ≡ suc (at_feed bs)

@@ -1,9 +1,9 @@
 -- A word is read exactly where it has no flaw. Only the first law goes by kinds.
-use Rattle.std.proofs.Common.{◌≡◌, ℕ, ◌<◌, ◌^◌, Bool, true, false, List, [], ◌∷◌, length, eqb, ltb, cond, arith, refl, sym, ap, ◌∙◌, ◌⊎◌, inl, inr, Option, Some, None}
-use Rattle.std.specs.Prelude.{◌&&◌, ◌||◌, not, is_some, is_none, find}
-use Rattle.std.specs.List.{list_any, zip}
+use Rattle.std.proofs.Common.{◌≡◌, ℕ, Bool, true, false, List, [], ◌∷◌, length, eqb, ltb, cond, arith, refl, sym, ap, ◌∙◌, Option, Some, None}
+use Rattle.std.specs.Prelude.{◌&&◌, ◌||◌, not, is_some, is_none}
+use Rattle.std.specs.List.{list_any}
 use Rattle.std.specs.Option.{option_map_or}
-use Rattle.std.proofs.lemmas.Bool.{cases_Bool, eqb-true, eqb-false, ne_eqb}
+use Rattle.std.proofs.lemmas.Bool.{ne_eqb}
 use Rattle.mz_base.specs.Names.{is_base_name, is_null}
 use Rattle.mz_words.specs.declared.kind.Kind.{Kind}
 use Rattle.mz_words.specs.declared.kind.Kind.TheVariants as kind
@@ -11,7 +11,6 @@ use Rattle.mz_words.specs.declared.kind.Word.{Word}
 use Rattle.mz_words.specs.declared.kind.Word.TheVariants as word
 use Rattle.mz_words.specs.declared.name.GivenName.{GivenName}
 use Rattle.mz_words.specs.declared.name.Name.TheVariants as name
-use Rattle.mz_words.specs.declared.flaw.Flaw.TheVariants.{NotNumber, NoSuchCaller, NotName, BeyondLimits}
 use Rattle.mz_words.specs.Numbers.{is_from, is_number, is_number_from, number_of, value_of, ◌>>=◌, number_from, caller_of}
 use Rattle.mz_words.specs.Names.{is_name, is_batch_name, is_given_name, old_name_of, new_name_of, is_new, base_of, name_of, given_of, batch_of, longer_name_of}
 use Rattle.mz_words.specs.Places.{place_of}
@@ -24,7 +23,7 @@ use Rattle.mz_words.specs.Sentences.{read_words}
 use Rattle.mz_words.proofs.NameLemmas.{is_some-batch_of, is_some-number_from}
 
 -- reading, as a test
-told : {A : Type 0} (o : Option A) (f : A → Word) → is_some (o >>= λ x. Some (f x)) ≡ is_some o
+told : {A B : Type 0} (o : Option A) (f : A → B) → is_some (o >>= λ x. Some (f x)) ≡ is_some o
 told None f = refl
 told (Some x) f = refl
 
@@ -43,18 +42,14 @@ when_told : {A : Type 0} (b : Bool) (o : Option A) → is_some (cond b o None) �
 when_told true o = refl
 when_told false o = refl
 
-any_told : {A B : Type 0} (o : Option A) (f : A → B) → is_some (o >>= λ x. Some (f x)) ≡ is_some o
-any_told None f = refl
-any_told (Some x) f = refl
-
 abbrev given_name : List ℕ → GivenName
 given_name base = record { base = base }
 
-given_told : (t : List ℕ) → is_some (given_of t) ≡ is_given_name t
+pub given_told : (t : List ℕ) → is_some (given_of t) ≡ is_given_name t
 given_told [] = refl
 given_told (c ∷ cs) =
     when_told (eqb c 64) (base_of cs >>= λ base. Some (given_name base))
-    ∙ ap (λ (b : Bool). eqb c 64 && b) (any_told (base_of cs) given_name ∙ if_told (is_base_name cs) cs)
+    ∙ ap (λ (b : Bool). eqb c 64 && b) (told (base_of cs) given_name ∙ if_told (is_base_name cs) cs)
 
 either_told : {A B : Type 0} (o : Option A) (f : A → B) (p : Option B) → is_some (option_map_or (λ x. Some (f x)) o p) ≡ (is_some o || is_some p)
 either_told None f p = refl
@@ -64,11 +59,11 @@ three : (a b c : Bool) → (a || (b || c)) ≡ (a || b || c)
 three true b c = refl
 three false b c = refl
 
-name_told : (t : List ℕ) → is_some (name_of t) ≡ is_name t
+pub name_told : (t : List ℕ) → is_some (name_of t) ≡ is_name t
 name_told t =
     either_told (base_of t) name.Base (longer_name_of t)
     ∙ ap (λ (b : Bool). b || is_some (longer_name_of t)) (if_told (is_base_name t) t)
-    ∙ ap (λ (b : Bool). is_base_name t || b) (either_told (batch_of t) name.Batch (given_of t >>= λ g. Some (name.Given g)) ∙ ap (λ (b : Bool). b || is_some (given_of t >>= λ g. Some (name.Given g))) (is_some-batch_of t) ∙ ap (λ (b : Bool). is_batch_name t || b) (any_told (given_of t) name.Given ∙ given_told t))
+    ∙ ap (λ (b : Bool). is_base_name t || b) (either_told (batch_of t) name.Batch (given_of t >>= λ g. Some (name.Given g)) ∙ ap (λ (b : Bool). b || is_some (given_of t >>= λ g. Some (name.Given g))) (is_some-batch_of t) ∙ ap (λ (b : Bool). is_batch_name t || b) (told (given_of t) name.Given ∙ given_told t))
     ∙ three (is_base_name t) (is_batch_name t) (is_given_name t)
 
 else_told : {A : Type 0} (b : Bool) (x : A) (o : Option A) → is_some (cond b (Some x) o) ≡ (b || is_some o)
@@ -76,7 +71,7 @@ else_told true x o = refl
 else_told false x o = refl
 
 old_told : (t : List ℕ) → is_some (old_name_of t) ≡ (is_null t || is_name t)
-old_told t = else_told (is_null t) None (name_of t >>= λ n. Some (Some n)) ∙ ap (λ (b : Bool). is_null t || b) (any_told (name_of t) (λ n. Some n) ∙ name_told t)
+old_told t = else_told (is_null t) None (name_of t >>= λ n. Some (Some n)) ∙ ap (λ (b : Bool). is_null t || b) (told (name_of t) (λ n. Some n) ∙ name_told t)
 
 then_if : {A : Type 0} (o : Option A) (b : Bool) → is_some (o >>= λ x. cond b (Some x) None) ≡ (is_some o && b)
 then_if None b = refl

@@ -1,8 +1,9 @@
 -- Reading and writing are inverse, kind by kind.
-use Rattle.std.proofs.Common.{◌≡◌, ℕ, ◌<◌, ◌≤◌, ◌^◌, Bool, true, false, List, codes, cond, inl, inr, length, ltb, arith, refl, sym, ap, ◌∙◌, Option, Some, None}
+use Rattle.std.proofs.Common.{◌≡◌, ℕ, ◌<◌, ◌≤◌, ◌^◌, Bool, true, List, codes, cond, inl, inr, arith, refl, sym, ap, ◌∙◌, Option, Some, None}
 use Rattle.std.specs.Prelude.{◌&&◌}
-use Rattle.std.specs.List.{list_all}
-use Rattle.std.proofs.lemmas.Bool.{and_parts, and_from}
+use Rattle.std.proofs.lemmas.Bool.{and_parts, and_from, le-leb, ltb-true}
+use Rattle.std.proofs.lemmas.Bool.Decides.{nat_tests}
+use Rattle.std.specs.Fmt.{decimal}
 use Rattle.mz_words.specs.declared.kind.Kind.{Kind}
 use Rattle.mz_words.specs.declared.kind.Kind.TheVariants as kind
 use Rattle.mz_words.specs.declared.kind.Word.{Word}
@@ -13,10 +14,10 @@ use Rattle.mz_words.specs.Places.{place_of}
 use Rattle.mz_words.specs.Ranges.{range_of}
 use Rattle.mz_words.specs.Hex.{shown_of}
 use Rattle.mz_words.specs.Kinds.{kind_of, word_fits, word_text, read_word, is_short_kind}
-use Rattle.std.specs.Str.{bytes_eq}
 use Rattle.std.proofs.lemmas.Slice.Eq.{bytes_eq-Decides}
 use Rattle.mz_base.specs.Names.{is_null}
 use Rattle.mz_words.specs.declared.name.Name.{Name}
+use Rattle.mz_words.specs.declared.name.Name.TheVariants as name
 use Rattle.mz_words.proofs.NumberIsReadAgain.{number_again, limited_again}
 use Rattle.mz_words.proofs.PlaceIsReadAgain.{small_again, place_again, range_again, shown_again}
 use Rattle.mz_words.proofs.NameReading.{base_of_base}
@@ -24,8 +25,7 @@ use Rattle.mz_words.proofs.NameIsReadAgain.{caller_of-decimal, given_of-word, na
 use Rattle.mz_words.proofs.ReadIsWritten.{bind_parts, some_same, if_else, if_parts, number_spelled, limited_spelled, caller_spelled, base_spelled, given_spelled, name_spelled}
 use Rattle.mz_words.proofs.PlaceReadIsWritten.{small_spelled, place_spelled, range_spelled, shown_spelled}
 use Rattle.mz_words.specs.Lines.{is_visible_word, is_short_word}
-use Rattle.mz_words.proofs.WordsAreShort.{number_short, small_short, caller_short, limited_short, base_short, name_short, given_short, place_short, range_short}
-use Rattle.mz_words.proofs.WordsAreVisible.{number_visible, limited_visible, zone_visible, base_visible, name_visible, place_visible, range_visible, hex_visible, caller_visible}
+use Rattle.mz_words.proofs.WordsAreVisible.{IsSeen, base_seen, hex_visible, name_seen, number_seen, place_seen, range_seen}
 
 into : {A : Type 0} (o : Option A) (x : A) (f : A → Word) → o ≡ Some x → (o >>= λ y. Some (f y)) ≡ Some (f x)
 into {A = A} o x f e = ap (λ (p : Option A). p >>= λ y. Some (f y)) e
@@ -113,42 +113,32 @@ read_is_written callers before kind.Place t w h = spells callers before (place_o
 read_is_written callers before kind.Range t w h = spells callers before (range_of t) word.Range kind.Range t w h (range_spelled t) (λ x. refl)
 read_is_written callers before kind.Bytes t w h = spells callers before (shown_of t) word.Bytes kind.Bytes t w h (shown_spelled t) (λ x. refl)
 
--- the bytes of a word can be seen
-pub word_visible : (callers : ℕ) (before : List ℕ) (w : Word) → callers < 2 ^ 64 → word_fits callers before w ≡ true → is_visible_word (word_text w) ≡ true
-unfolding word_fits word_text
-word_visible callers before (word.Number n) few h = number_visible n h
-word_visible callers before (word.Small n) few h = zone_visible n h
-word_visible callers before (word.Caller n) few h = caller_visible callers n few h
-word_visible callers before (word.Base b) few h = base_visible b h
-word_visible callers before (word.Name n) few h = name_visible n h
-word_visible callers before (word.Old None) few h = refl
-word_visible callers before (word.Old (Some n)) few h = name_visible n h
-word_visible callers before (word.New n) few h = name_visible n (and_parts (name_fits n) _ h).0
-word_visible callers before (word.Given g) few h = base_visible g.base h
-word_visible callers before (word.Zone z) few h = base_visible z h
-word_visible callers before (word.Byte n) few h = limited_visible 0 255 n h (omega arith)
-word_visible callers before (word.ShowCount n) few h = limited_visible 1 64 n h (omega arith)
-word_visible callers before (word.BatchCount n) few h = limited_visible 1 4096 n h (omega arith)
-word_visible callers before (word.Place k) few h = place_visible k h
-word_visible callers before (word.Range r) few h = range_visible r
-word_visible callers before (word.Bytes bs) few h = hex_visible bs (and_parts _ _ h).0
+-- The bytes of a word can be seen, and but for those that show bytes, words have at most 21.
+pub record IsPlainWord (w : Word) : Type 0 where
+  pub visible : is_visible_word (word_text w) ≡ true
+  pub short : is_short_kind (kind_of w) ≡ true → is_short_word (word_text w) ≡ true
 
--- but for those that show bytes, words have at most 21 bytes
-pub word_short : (callers : ℕ) (before : List ℕ) (w : Word) → callers < 2 ^ 64 → word_fits callers before w ≡ true → is_short_kind (kind_of w) ≡ true → is_short_word (word_text w) ≡ true
+few : (w : Word) (m : ℕ) → m ≤ 21 → IsSeen m (word_text w) → IsPlainWord w
+few w m le h = record { visible = h.visible; short = λ short. le-leb _ 21 (let seen = h.few in omega (arith, seen, le)) }
+
+limited : (w : Word) (least most n : ℕ) → word_text w ≡ decimal n → is_from least most n ≡ true → most < 2 ^ 64 → IsPlainWord w
+limited w least most n e h lt = let top : n ≤ most = grind (arith, nat_tests) in few w 20 (omega arith) (rw e (number_seen n (omega arith)))
+
+pub plain_word : (callers : ℕ) (before : List ℕ) (w : Word) → callers < 2 ^ 64 → word_fits callers before w ≡ true → IsPlainWord w
 unfolding word_fits word_text
-word_short callers before (word.Number n) few h short = number_short n h
-word_short callers before (word.Small n) few h short = small_short n h
-word_short callers before (word.Caller n) few h short = caller_short callers n few h
-word_short callers before (word.Base b) few h short = base_short b h
-word_short callers before (word.Name n) few h short = name_short n h
-word_short callers before (word.Old None) few h short = refl
-word_short callers before (word.Old (Some n)) few h short = name_short n h
-word_short callers before (word.New n) few h short = name_short n (and_parts (name_fits n) _ h).0
-word_short callers before (word.Given g) few h short = given_short g h
-word_short callers before (word.Zone z) few h short = base_short z h
-word_short callers before (word.Byte n) few h short = limited_short 0 255 n h (omega arith)
-word_short callers before (word.ShowCount n) few h short = limited_short 1 64 n h (omega arith)
-word_short callers before (word.BatchCount n) few h short = limited_short 1 4096 n h (omega arith)
-word_short callers before (word.Place k) few h short = place_short k h
-word_short callers before (word.Range r) few h short = range_short r
-word_short callers before (word.Bytes bs) few h short = absurd cc
+plain_word callers before (word.Number n) lt h = few _ 20 (omega arith) (number_seen n (ltb-true _ _ h))
+plain_word callers before (word.Small n) lt h = let small : n < 2 ^ 32 = ltb-true _ _ h in few _ 20 (omega arith) (number_seen n (omega arith))
+plain_word callers before (word.Caller n) lt h = let below : n < callers = ltb-true _ _ h in few _ 20 (omega arith) (number_seen n (omega arith))
+plain_word callers before (word.Base b) lt h = few _ 16 (omega arith) (base_seen b h)
+plain_word callers before (word.Name n) lt h = few _ 21 (omega arith) (name_seen n h)
+plain_word callers before (word.Old None) lt h = record { visible = refl; short = λ short. refl }
+plain_word callers before (word.Old (Some n)) lt h = few _ 21 (omega arith) (name_seen n h)
+plain_word callers before (word.New n) lt h = few _ 21 (omega arith) (name_seen n (and_parts (name_fits n) _ h).0)
+plain_word callers before (word.Given g) lt h = few _ 21 (omega arith) (name_seen (name.Given g) h)
+plain_word callers before (word.Zone z) lt h = few _ 16 (omega arith) (base_seen z h)
+plain_word callers before (word.Byte n) lt h = limited _ 0 255 n refl h (omega arith)
+plain_word callers before (word.ShowCount n) lt h = limited _ 1 64 n refl h (omega arith)
+plain_word callers before (word.BatchCount n) lt h = limited _ 1 4096 n refl h (omega arith)
+plain_word callers before (word.Place k) lt h = few _ 21 (omega arith) (place_seen k h)
+plain_word callers before (word.Range r) lt h = few _ 21 (omega arith) (range_seen r)
+plain_word callers before (word.Bytes bs) lt h = record { visible = hex_visible bs (and_parts _ _ h).0; short = λ short. absurd cc }

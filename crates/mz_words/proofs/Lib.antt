@@ -14,7 +14,6 @@ pub mod ReadIsWritten
 pub mod PlaceReadIsWritten
 -- What words are made of, and how lines of them are cut.
 pub mod WordsAreVisible
-pub mod WordsAreShort
 pub mod LineIsCutAgain
 pub mod BytesAreCut
 pub mod WordsAreJoined

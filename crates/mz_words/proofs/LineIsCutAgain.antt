@@ -4,7 +4,9 @@ use Rattle.std.specs.Prelude.{not}
 use Rattle.std.specs.List.{list_all, join_with_byte, slice_split, onto_first}
 use Rattle.std.proofs.lemmas.Bool.{and_parts, and_from, not-true}
 use Rattle.std.proofs.lemmas.Bool.Decides.{nat_tests}
-use Rattle.mz_words.specs.Lines.{Cut, longer, cuts, line_of, line_text, words_of, is_visible, are_visible}
+use Rattle.std.proofs.lemmas.List.Folds.{list_all-append}
+use Rattle.mz_words.specs.Numbers.{is_from}
+use Rattle.mz_words.specs.Lines.{longer, cuts, line_of, line_text, words_of, is_visible, are_visible}
 
 no_space : (b : ℕ) → is_visible b ≡ true → eqb b 32 ≡ false
 no_space b h = grind (arith, nat_tests)
@@ -41,37 +43,27 @@ words_again w (v ∷ ws) h =
     ∙ ap (λ (x : List (List ℕ)). w ∷ x) (words_again v ws parts.1)
 
 -- bytes are cut behind a line of words
-no_feed : (b : ℕ) → is_visible b ≡ true → eqb b 10 ≡ false
-no_feed b h = grind (arith, nat_tests)
-
 cut_off : (t rest : List ℕ) → list_all (λ b. not (eqb b 10)) t ≡ true → cuts (t ++ 10 ∷ rest) ≡ record { text = t; ended = true } ∷ cuts rest
 cut_off [] rest h = refl
 cut_off (b ∷ bs) rest h =
     let parts = and_parts (not (eqb b 10)) (list_all (λ x. not (eqb x 10)) bs) h in
     rw (not-true (eqb b 10) parts.0) (ap (longer b) (cut_off bs rest parts.1))
 
-abbrev no_feeds : List ℕ → Bool
-no_feeds t = list_all (λ b. not (eqb b 10)) t
+-- what holds of each byte that can be seen, and of a space, holds of each byte of a line
+of_word : (p : ℕ → Bool) → ((b : ℕ) → is_visible b ≡ true → p b ≡ true) → (w : List ℕ) → list_all is_visible w ≡ true → list_all p w ≡ true
+of_word p each [] h = refl
+of_word p each (b ∷ bs) h = let parts = and_parts (is_visible b) (list_all is_visible bs) h in and_from _ _ (each b parts.0) (of_word p each bs parts.1)
 
-word_no_feeds : (w : List ℕ) → list_all is_visible w ≡ true → no_feeds w ≡ true
-word_no_feeds [] h = refl
-word_no_feeds (b ∷ bs) h =
-    let parts = and_parts (is_visible b) (list_all is_visible bs) h in
-    rw (no_feed b parts.0) (word_no_feeds bs parts.1)
-
-no_feeds-append : (s t : List ℕ) → no_feeds s ≡ true → no_feeds t ≡ true → no_feeds (s ++ t) ≡ true
-no_feeds-append [] t h k = k
-no_feeds-append (b ∷ bs) t h k =
-    let parts = and_parts (not (eqb b 10)) (no_feeds bs) h in
-    and_from _ _ parts.0 (no_feeds-append bs t parts.1 k)
-
-line_no_feeds : (ws : List (List ℕ)) → are_visible ws ≡ true → no_feeds (join_with_byte 32 ws) ≡ true
-line_no_feeds [] h = refl
-line_no_feeds (w ∷ []) h = word_no_feeds w (and_parts (list_all is_visible w) true h).0
-line_no_feeds (w ∷ v ∷ ws) h =
+of_line : (p : ℕ → Bool) → ((b : ℕ) → is_visible b ≡ true → p b ≡ true) → p 32 ≡ true → (ws : List (List ℕ)) → are_visible ws ≡ true → list_all p (join_with_byte 32 ws) ≡ true
+of_line p each space [] h = refl
+of_line p each space (w ∷ []) h = of_word p each w (and_parts (list_all is_visible w) true h).0
+of_line p each space (w ∷ v ∷ ws) h =
     let parts = and_parts (list_all is_visible w) (are_visible (v ∷ ws)) h in
-    no_feeds-append w (32 ∷ join_with_byte 32 (v ∷ ws)) (word_no_feeds w parts.0) (line_no_feeds (v ∷ ws) parts.1)
+    list_all-append p w (32 ∷ join_with_byte 32 (v ∷ ws)) ∙ and_from _ _ (of_word p each w parts.0) (and_from _ _ space (of_line p each space (v ∷ ws) parts.1))
+
+pub line_printable : (ws : List (List ℕ)) → are_visible ws ≡ true → list_all (is_from 32 126) (join_with_byte 32 ws) ≡ true
+line_printable = of_line (is_from 32 126) (λ b h. grind (arith, nat_tests)) refl
 
 pub line_cut_off : (ws : List (List ℕ)) (rest : List ℕ) → are_visible ws ≡ true → cuts (line_text ws ++ rest) ≡ line_of ws ∷ cuts rest
 line_cut_off ws rest h =
-    ap cuts (append_assoc (join_with_byte 32 ws) (10 ∷ []) rest) ∙ cut_off (join_with_byte 32 ws) rest (line_no_feeds ws h)
+    ap cuts (append_assoc (join_with_byte 32 ws) (10 ∷ []) rest) ∙ cut_off (join_with_byte 32 ws) rest (of_line (λ b. not (eqb b 10)) (λ b seen. grind (arith, nat_tests)) refl ws h)

@@ -1,6 +1,6 @@
 -- Places, bytes and ranges are read again from the words that they are written as.
 use Rattle.std.proofs.Common.{◌≡◌, ℕ, ◌+◌, ◌*◌, ◌/◌, ◌%◌, ◌<◌, ◌≤◌, ◌^◌, Bool, true, false, List, [], ◌∷◌, ◌++◌, length, take, drop, eqb, ltb, cond, arith, refl, sym, ap, ◌∙◌, inl, inr, Option, Some, codes}
-use Rattle.std.specs.Prelude.{not, ◌&&◌, position}
+use Rattle.std.specs.Prelude.{not, position}
 use Rattle.std.specs.List.{list_all}
 use Rattle.std.specs.Fmt.{decimal}
 use Rattle.std.specs.Str.{bytes_eq}

@@ -9,7 +9,7 @@ use Rattle.std.proofs.lemmas.Bool.Decides.{nat_tests}
 use Rattle.std.proofs.lemmas.List.{append_assoc, take-append-drop, nil_from_length}
 use Rattle.mz_base.specs.Names.{is_digit}
 use Rattle.mz_events.specs.declared.place.Place.{Place}
-use Rattle.mz_words.specs.Numbers.{number_of, is_from, ◌>>=◌, small_number_of, is_u32}
+use Rattle.mz_words.specs.Numbers.{is_from, ◌>>=◌, small_number_of, is_u32}
 use Rattle.mz_base.specs.declared.range.Range.{Range}
 use Rattle.mz_base.specs.declared.range.Range.TheVariants as range
 use Rattle.mz_words.specs.Ranges.{range_word, is_listed_range, range_of}

@@ -1,6 +1,6 @@
 -- A sentence and its text determine each other. Nothing here goes by the forms or the kinds.
-use Rattle.std.proofs.Common.{◌≡◌, ℕ, ◌<◌, ◌^◌, Bool, true, false, List, [], ◌∷◌, ◌++◌, map, arith, refl, sym, ap, ◌∙◌, inl, inr, subst, Option, Some, None}
-use Rattle.std.specs.Prelude.{◌&&◌, find}
+use Rattle.std.proofs.Common.{◌≡◌, ℕ, ◌<◌, ◌^◌, Bool, true, List, [], ◌∷◌, ◌++◌, map, refl, sym, ap, ◌∙◌, inl, inr, subst, Option, Some, None}
+use Rattle.std.specs.Prelude.{find}
 use Rattle.std.specs.List.{list_all}
 use Rattle.std.specs.Str.{bytes_eq}
 use Rattle.std.proofs.lemmas.Bool.{and_parts, and_from}
@@ -11,12 +11,12 @@ use Rattle.mz_words.specs.declared.kind.Word.{Word}
 use Rattle.mz_words.specs.declared.table.Form.{Form}
 use Rattle.mz_words.specs.declared.sentence.Sentence.{Sentence}
 use Rattle.mz_words.specs.Numbers.{◌>>=◌}
-use Rattle.mz_words.specs.Lines.{is_visible_word, are_visible, is_short_word, are_short}
+use Rattle.mz_words.specs.Lines.{are_visible, are_short}
 use Rattle.mz_words.specs.Kinds.{kind_of, word_fits, word_text, read_word, is_short_kind}
 use Rattle.mz_words.specs.Table.{form_word, kinds_of, form_among}
 use Rattle.mz_words.specs.Sentences.{words_fit, read_words, read_onto, sentence, sentence_behind, sentence_in, sentence_words, IsSentence}
 use Rattle.mz_words.proofs.ReadIsWritten.{bind_parts, some_same, if_else}
-use Rattle.mz_words.proofs.KindLaws.{Spells, written_is_read, read_is_written, word_visible, word_short}
+use Rattle.mz_words.proofs.KindLaws.{written_is_read, read_is_written, plain_word}
 use Rattle.mz_words.proofs.TableLaws.{form_visible, form_short}
 
 -- words
@@ -90,7 +90,7 @@ words_visible : (callers : ℕ) (before : List ℕ) (ws : List Word) → callers
 words_visible callers before [] few h = refl
 words_visible callers before (w ∷ ws) few h =
     let p = and_parts (word_fits callers before w) (words_fit callers (word_text w) ws) h in
-    and_from _ _ (word_visible callers before w few p.0) (words_visible callers (word_text w) ws few p.1)
+    and_from _ _ (plain_word callers before w few p.0).visible (words_visible callers (word_text w) ws few p.1)
 
 pub sentence_visible : (callers : ℕ) (s : Sentence) → callers < 2 ^ 64 → words_fit callers [] s.words ≡ true → are_visible (sentence_words s) ≡ true
 sentence_visible callers s few h = and_from _ _ (form_visible s.form) (words_visible callers [] s.words few h)
@@ -101,7 +101,7 @@ words_short callers before [] few h short = refl
 words_short callers before (w ∷ ws) few h short =
     let p = and_parts (word_fits callers before w) (words_fit callers (word_text w) ws) h in
     let k = and_parts (is_short_kind (kind_of w)) (list_all is_short_kind (map kind_of ws)) short in
-    and_from _ _ (word_short callers before w few p.0 k.0) (words_short callers (word_text w) ws few p.1 k.1)
+    and_from _ _ ((plain_word callers before w few p.0).short k.0) (words_short callers (word_text w) ws few p.1 k.1)
 
 pub sentence_short : (callers : ℕ) (s : Sentence) → callers < 2 ^ 64 → words_fit callers [] s.words ≡ true → list_all is_short_kind (map kind_of s.words) ≡ true
     → are_short (sentence_words s) ≡ true

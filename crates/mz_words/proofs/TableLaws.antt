@@ -1,5 +1,5 @@
 -- What holds of each form of the table.
-use Rattle.std.proofs.Common.{◌≡◌, true, refl, List, Some}
+use Rattle.std.proofs.Common.{◌≡◌, true, refl}
 use Rattle.mz_words.specs.declared.table.Form.{Form}
 use Rattle.mz_words.specs.declared.table.Form.TheVariants as form
 use Rattle.mz_words.specs.Table.{form_word}

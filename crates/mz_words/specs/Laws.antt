@@ -1,21 +1,20 @@
 -- What the definitions of words and lines mean: what is written is read again, what is read is written, and a word is read
 -- exactly where it has no flaw. This project's own.
-use Rattle.std.specs.Prelude.{ℕ, ◌≡◌, ◌==◌, ◌<◌, ◌≤◌, ◌^◌, Bool, true, false, is_none, nat_lt, List, [], ◌∷◌, ◌++◌, map, length, Option, Some, None}
+use Rattle.std.specs.Prelude.{ℕ, ◌≡◌, ◌==◌, ◌<◌, ◌≤◌, ◌^◌, true, false, is_none, nat_lt, List, [], ◌∷◌, ◌++◌, map, length, Some, None}
 use Rattle.std.specs.List.{list_any, list_all, join_with_byte}
 use Rattle.std.specs.Fmt.{decimal}
-use Rattle.mz_words.specs.declared.flaw.Flaw.{Flaw}
 use Rattle.mz_words.specs.declared.kind.Kind.{Kind}
 use Rattle.mz_words.specs.declared.kind.Kind.TheVariants as kind
 use Rattle.mz_words.specs.declared.kind.Word.{Word}
 use Rattle.mz_words.specs.declared.table.Form.{Form}
 use Rattle.mz_words.specs.declared.sentence.Sentence.{Sentence}
-use Rattle.mz_words.specs.Numbers.{is_u64, are_digits, number_of, caller_of}
+use Rattle.mz_words.specs.Numbers.{is_from, is_u64, are_digits, number_of, caller_of}
 use Rattle.mz_base.specs.Names.{is_base_name}
 use Rattle.mz_words.specs.declared.name.BatchName.{BatchName}
 use Rattle.mz_words.specs.declared.name.Name.{Name}
 use Rattle.mz_words.specs.Names.{batch_word, name_word, name_fits, name_of}
-use Rattle.mz_words.specs.Lines.{cuts, line_of, line_text, words_of, is_visible_word, are_visible, are_short}
-use Rattle.mz_words.specs.Kinds.{kind_of, word_text, is_short_kind}
+use Rattle.mz_words.specs.Lines.{Cut, cuts, line_of, line_text, words_of, is_visible_word, are_visible, are_short}
+use Rattle.mz_words.specs.Kinds.{kind_of, is_short_kind}
 use Rattle.mz_words.specs.Sentences.{words_fit, read_words, sentence_in, sentence_words, IsSentence}
 use Rattle.mz_words.specs.Flaws.{flaws, is_wrong, some_wrong}
 
@@ -50,10 +49,14 @@ pub record FlawsHold : Type 0 where
       → list_any (λ t. length t == 0) ts ≡ false
   pub caller : (callers : ℕ) (t : List ℕ) → list_any (λ y. is_wrong callers [] y kind.Caller t) flaws ≡ is_none (caller_of callers t)
 
--- a line of words is cut into those words, and bytes are cut behind each line of words
+-- A line of words is cut into those words, and bytes are cut behind each line of words. A line that is ended is one of its
+-- words, and bytes that are cut into the same lines are the same.
 pub record LinesHold : Type 0 where
   pub words : (w : List ℕ) (ws : List (List ℕ)) → are_visible (w ∷ ws) ≡ true → words_of (join_with_byte 32 (w ∷ ws)) ≡ w ∷ ws
   pub cut : (ws : List (List ℕ)) (rest : List ℕ) → are_visible ws ≡ true → cuts (line_text ws ++ rest) ≡ line_of ws ∷ cuts rest
+  pub ended : (l : Cut) → l.ended ≡ true → l ≡ line_of (words_of l.text)
+  pub same : (bs cs : List ℕ) → cuts bs ≡ cuts cs → bs ≡ cs
+  pub printable : (ws : List (List ℕ)) → are_visible ws ≡ true → list_all (is_from 32 126) (join_with_byte 32 ws) ≡ true
 
 -- all of it
 pub record WordLaws : Type 0 where

@@ -1,7 +1,7 @@
 //! What can be wrong with a word in its place.
 
 ghost use Rattle.std.specs.Prelude.{◌≡◌, map};
-ghost use Rattle.mz_words.specs.Names.{is_name, is_batch_name, is_given_name};
+ghost use Rattle.mz_words.specs.Names.{is_name, is_given_name};
 ghost use Rattle.mz_words.specs.Flaws.{is_numeric, is_beyond, is_no_name, is_no_caller, is_wrong, some_wrong};
 
 use crate::kind::Kind;
@@ -114,23 +114,16 @@ fn is_no_name(before: &[u8], kind: Kind, text: &[u8]) -> bool
     }
 }
 
-fn is_batch_name(word: &[u8]) -> bool
-    ensures { result ≡ is_batch_name word.now }
-{
-    reading::batch_name(word).is_some()
-}
-
+#[tactic(auto, using(crate::proofs::FlawIsUnread::given_told))]
 fn is_given_name(word: &[u8]) -> bool
     ensures { result ≡ is_given_name word.now }
 {
-    match word {
-        [] => false,
-        [first, rest @ ..] => *first == b'@' && is_base_name(rest),
-    }
+    reading::given(word).is_some()
 }
 
+#[tactic(auto, using(crate::proofs::FlawIsUnread::name_told))]
 fn is_name(word: &[u8]) -> bool
     ensures { result ≡ is_name word.now }
 {
-    is_base_name(word) || is_batch_name(word) || is_given_name(word)
+    reading::any_name(word).is_some()
 }

@@ -85,8 +85,7 @@ pub fn show_count(word: &[u8]) -> Option<ShowCount>
 pub fn byte(word: &[u8]) -> Option<u8>
     ensures { result ≡ number_from 0 255 word.now }
 {
-    let n = number(word)?;
-    if n <= 255 { Some(n as u8) } else { None }
+    u8::try_from(number(word)?).ok()
 }
 
 /// A name of any form.
@@ -150,12 +149,7 @@ pub fn is_base_name(word: &[u8]) -> bool
 pub fn small_number(word: &[u8]) -> Option<u32>
     ensures { result ≡ small_number_of word.now }
 {
-    let n = number(word)?;
-    if n <= 4_294_967_295 {
-        Some(n as u32)
-    } else {
-        None
-    }
+    u32::try_from(number(word)?).ok()
 }
 
 /// The place of the first byte that is no digit.

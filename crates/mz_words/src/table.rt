@@ -4,6 +4,13 @@ ghost use Rattle.std.specs.Prelude.{◌≡◌};
 ghost use Rattle.mz_words.specs.Table.{form_word, kinds_of, form_among};
 
 use crate::kind::Kind;
+use Form::{
+    Back, BadAlign, Batch, Block, Bytes, Calloc, Destroy, Done, Dry, End, Fill, Free, FreeAt,
+    Freed, Full, Give, Got, HasLive, Held, InZone, IsDefault, Link, Listed, Malloc, Memalign, Move,
+    NameTaken, New, No, NoZone, NotHeld, NotLive, Nowhere, Null, Open, OutOfRange, Overflow,
+    Realloc, Resize, Round, Show, Shut, Size, SizeAt, SizeIs, SizedFree, Take, TooMany, Unbatch,
+    Use, Valloc, Where, WrongSize, Zone, ZoneFree,
+};
 
 /// The form of a line. The word of a form is unique only within its family.
 #[derive(Clone, Copy, Debug, PartialEq, Eq)]
@@ -66,77 +73,27 @@ pub enum Form {
 }
 
 /// The forms of the lines of a round's start.
-pub const ROUND_LINES: [Form; 5] = [
-    Form::Round,
-    Form::Zone,
-    Form::Destroy,
-    Form::SizeAt,
-    Form::Where,
-];
+pub const ROUND_LINES: [Form; 5] = [Round, Zone, Destroy, SizeAt, Where];
 
 /// The forms of commands.
 pub const COMMANDS: [Form; 17] = [
-    Form::Malloc,
-    Form::Calloc,
-    Form::Valloc,
-    Form::Memalign,
-    Form::Realloc,
-    Form::Free,
-    Form::FreeAt,
-    Form::ZoneFree,
-    Form::SizedFree,
-    Form::Size,
-    Form::Fill,
-    Form::Show,
-    Form::Link,
-    Form::Give,
-    Form::Batch,
-    Form::Unbatch,
-    Form::Use,
+    Malloc, Calloc, Valloc, Memalign, Realloc, Free, FreeAt, ZoneFree, SizedFree, Size, Fill, Show,
+    Link, Give, Batch, Unbatch, Use,
 ];
 
 /// The forms of events.
 pub const EVENTS: [Form; 11] = [
-    Form::Take,
-    Form::Back,
-    Form::Move,
-    Form::New,
-    Form::End,
-    Form::Resize,
-    Form::Full,
-    Form::Dry,
-    Form::No,
-    Form::Open,
-    Form::Shut,
+    Take, Back, Move, New, End, Resize, Full, Dry, No, Open, Shut,
 ];
 
 /// The forms of answers.
 pub const ANSWERS: [Form; 21] = [
-    Form::Held,
-    Form::NoZone,
-    Form::Overflow,
-    Form::BadAlign,
-    Form::NotHeld,
-    Form::WrongSize,
-    Form::OutOfRange,
-    Form::NameTaken,
-    Form::TooMany,
-    Form::IsDefault,
-    Form::HasLive,
-    Form::Null,
-    Form::Nowhere,
-    Form::Done,
-    Form::NotLive,
-    Form::Block,
-    Form::SizeIs,
-    Form::Bytes,
-    Form::Got,
-    Form::Freed,
-    Form::InZone,
+    Held, NoZone, Overflow, BadAlign, NotHeld, WrongSize, OutOfRange, NameTaken, TooMany,
+    IsDefault, HasLive, Null, Nowhere, Done, NotLive, Block, SizeIs, Bytes, Got, Freed, InZone,
 ];
 
 /// The form of a line of the listing.
-pub const LISTING: [Form; 1] = [Form::Listed];
+pub const LISTING: [Form; 1] = [Listed];
 
 /// The word of a form, and the kinds of the words behind it.
 #[derive(Clone, Copy, Debug)]

@@ -2,7 +2,7 @@
 
 ghost use Rattle.mz_desk.specs.Laws.{DeskLaws};
 
-use mz_book::laws::{hands, notes, numbers, slots};
+use mz_book::laws::{hands, notes, numbers, owners, slots};
 use mz_events::laws::{entries, holding, separation};
 
 /// They hold, all together.
@@ -15,6 +15,7 @@ pub fn of_histories()
     entries::states_split();
     entries::own_entries_and_hands();
     hands::hands_after_an_event();
+    owners::owners_after_entries();
     separation::live_blocks_are_ascending();
     numbers::numbers_of_keepers();
     numbers::held_places();

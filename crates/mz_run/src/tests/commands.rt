@@ -9,7 +9,7 @@ use std::test::Fail;
 use std::thread::Threads;
 
 // Commands of one round, and what is printed of them between the round's head and `end`, and behind
-// `end`, in a space of 64 pages.
+// `end`.
 #[derive(Clone, Copy)]
 pub(super) struct Row {
     pub(super) name: &'static str,
@@ -18,29 +18,39 @@ pub(super) struct Row {
     pub(super) tail: &'static str,
 }
 
-// A trace of one round in a space of 64 pages, and the run that is to be printed of it.
-fn row_texts(alloc: Global, row: &Row) -> Result<(String, String), AllocError> {
-    let trace = format!(in alloc; "mzone-trace 1\n{SPACE}round\n{}", row.commands)?;
+// A trace of one round in a space, and the run that is to be printed of it.
+fn row_texts(alloc: Global, space: &str, row: &Row) -> Result<(String, String), AllocError> {
+    let trace = format!(in alloc; "mzone-trace 1\n{space}round\n{}", row.commands)?;
     let run = format!(in alloc;
-        "mzone-run 1\n{SPACE}round\ncaller 0\n{}end\n{}",
+        "mzone-run 1\n{space}round\ncaller 0\n{}end\n{}",
         row.records, row.tail
     )?;
     Ok((trace, run))
 }
 
-// Runs the commands of each row, and compares all that is printed.
-pub(super) fn check_rows<R: Threads + Wait + Sync + Abort>(
+// Runs the commands of each row in a space, and compares all that is printed.
+pub(super) fn check_rows_in<R: Threads + Wait + Sync + Abort>(
     rt: &R,
     alloc: Global,
+    space: &str,
     rows: &[Row],
 ) -> Result<(), Fail> {
     for row in rows {
-        let (trace, run) = row_texts(alloc, row)?;
+        let (trace, run) = row_texts(alloc, space, row)?;
         let (status, output) = outcome(rt, alloc, "run", trace.as_str())?;
         assert_eq!(rt; status, Status::Done, "{}", row.name);
         assert_eq!(rt; output.as_slice(), run.as_bytes(), "{}", row.name);
     }
     Ok(())
+}
+
+// Runs the commands of each row in a space of 64 pages.
+pub(super) fn check_rows<R: Threads + Wait + Sync + Abort>(
+    rt: &R,
+    alloc: Global,
+    rows: &[Row],
+) -> Result<(), Fail> {
+    check_rows_in(rt, alloc, SPACE, rows)
 }
 
 #[test]

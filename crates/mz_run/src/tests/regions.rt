@@ -2,7 +2,11 @@
 
 use super::{SPACE, outcome};
 use crate::Status;
+use std::alloc::{AllocError, Global};
+use std::process::Abort;
+use std::sync::Wait;
 use std::test::Fail;
+use std::thread::Threads;
 
 // The row `joining`: blocks of 1,008 bytes up to the end of the region, where four blocks more fit.
 // Three of them are freed, and one of 1,008 bytes takes their place. Then the region is exhausted.
@@ -136,4 +140,86 @@ fn threshold_and_empty_depot_region(rt: HostRuntime) -> Result<(), Fail> {
     assert_eq!(rt; status, Status::Done);
     assert_eq!(rt; output.as_slice(), run.as_bytes());
     Ok(())
+}
+
+// Lines that ask for blocks whose names are this letter and each number from `from` to below `to`.
+fn ask(trace: &mut String, letter: &str, from: u64, to: u64, bytes: u64) -> Result<(), AllocError> {
+    for i in from..to {
+        writeln!(trace, "0 malloc {letter}{i} {bytes}")?;
+    }
+    Ok(())
+}
+
+// Lines that free those blocks.
+fn free(trace: &mut String, letter: &str, from: u64, to: u64) -> Result<(), AllocError> {
+    for i in from..to {
+        writeln!(trace, "0 free {letter}{i}")?;
+    }
+    Ok(())
+}
+
+// A run of the trace prints each of these parts.
+fn check_parts<R: Threads + Wait + Sync + Abort>(
+    rt: &R,
+    alloc: Global,
+    trace: &str,
+    parts: &[&str],
+) -> Result<(), Fail> {
+    let (status, output) = outcome(rt, alloc, "run", trace)?;
+    assert_eq!(rt; status, Status::Done);
+    let text = str::from_utf8(&output)?;
+    for part in parts {
+        assert!(rt; text.find(*part).is_some(), "{part}");
+    }
+    Ok(())
+}
+
+// Three tiny regions of 1,040 blocks each. The first is freed but for a block, and the second until the
+// magazine is in excess, which is with 1,560 blocks in all; so the first goes to the depot. The second is
+// freed but for a block, and 521 of the third, and the second goes. The third is filled again. So the
+// next request comes to the depot, where both regions have room, and gets the lower one.
+#[test]
+fn the_lower_of_two_tiny_regions_of_the_depot(rt: HostRuntime) -> Result<(), Fail> {
+    let alloc = rt.alloc();
+    let mut trace = String::from_str(
+        alloc,
+        "mzone-trace 1\nspace 192 callers 1 magazines 2 nano 0 gen 1024 zones 1\nround\n",
+    )?;
+    ask(&mut trace, "b", 0, 3_120, 1_008)?;
+    free(&mut trace, "b", 0, 1_039)?;
+    free(&mut trace, "b", 1_040, 2_079)?;
+    free(&mut trace, "b", 2_080, 2_601)?;
+    ask(&mut trace, "c", 0, 521, 1_008)?;
+    trace.push_str("0 malloc x 1008\n")?;
+    let parts = [
+        "> free b1560\n4688 end 0t0 1572736 1008\n4689 move 0 0t0 0td\n= ok\n",
+        "> free b2600\n5728 end 0t0 2621312 1008\n5729 move 64 0t0 0td\n= ok\n",
+        "> malloc x 1008\n6251 full 0t0 1008 16\n6252 move 0 0td 0t0\n6253 new 0t0 0 1008 16\n= block 0 1008\n",
+    ];
+    check_parts(&rt, alloc, trace.as_str(), parts.as_slice())
+}
+
+// Three small regions of 256 blocks each, of which the second goes to the depot before the first: while
+// it is freed but for a block, the first keeps 192 blocks, three quarters of its bytes, and isn't sparse.
+#[test]
+fn the_lower_of_two_small_regions_of_the_depot(rt: HostRuntime) -> Result<(), Fail> {
+    let alloc = rt.alloc();
+    let mut trace = String::from_str(
+        alloc,
+        "mzone-trace 1\nspace 1536 callers 1 magazines 2 nano 0 gen 1024 zones 1\nround\n",
+    )?;
+    ask(&mut trace, "b", 0, 768, 32_768)?;
+    free(&mut trace, "b", 256, 511)?;
+    free(&mut trace, "b", 0, 64)?;
+    free(&mut trace, "b", 512, 578)?;
+    free(&mut trace, "b", 64, 255)?;
+    free(&mut trace, "b", 578, 642)?;
+    ask(&mut trace, "c", 0, 130, 32_768)?;
+    trace.push_str("0 malloc x 32768\n")?;
+    let parts = [
+        "> free b577\n1161 end 0s0 18907136 32768\n1162 move 512 0s0 0sd\n= ok\n",
+        "> free b641\n1417 end 0s0 21004288 32768\n1418 move 0 0s0 0sd\n= ok\n",
+        "> malloc x 32768\n1549 full 0s0 32768 16\n1550 move 0 0sd 0s0\n1551 new 0s0 0 32768 16\n= block 0 32768\n",
+    ];
+    check_parts(&rt, alloc, trace.as_str(), parts.as_slice())
 }

@@ -31,7 +31,6 @@ fn not_built<R: Threads + Wait + Sync + Abort>(
 fn lines_that_are_not_built(rt: HostRuntime) -> Result<(), Fail> {
     let alloc = rt.alloc();
     let rows = [
-        ("round\n0 malloc a 32769\n", 4),
         ("round\n0 malloc a 8\n0 calloc b 1 1\n", 5),
         ("round\n0 valloc a 8\n", 4),
         ("round\n0 memalign a 32 8\n", 4),
@@ -49,7 +48,7 @@ fn lines_that_are_not_built(rt: HostRuntime) -> Result<(), Fail> {
         ("round\nsize default 0\n", 4),
         ("round\nwhere 0\n", 4),
         (
-            "round\nround\n0 free a\n0 fill a 1\n0 show a 0 1\n0 link a 0 a\n0 malloc a 32768\n0 size a\n0 malloc a 32769\n",
+            "round\nround\n0 free a\n0 fill a 1\n0 show a 0 1\n0 link a 0 a\n0 malloc a 32769\n0 size a\n0 calloc a 1 1\n",
             10,
         ),
     ];
@@ -65,26 +64,35 @@ fn spaces_that_are_not_built(rt: HostRuntime) -> Result<(), Fail> {
     let alloc = rt.alloc();
     for space in [
         "space 64 callers 2 magazines 1 nano 0 gen 1024 zones 1",
-        "space 64 callers 1 magazines 1 nano 1 gen 1024 zones 1",
         "space 64 callers 1 magazines 1 nano 0 gen 1024 zones 2",
     ] {
-        let trace = format!(in alloc; "mzone-trace 1\n{space}\nround\n0 malloc a 32769\n")?;
+        let trace = format!(in alloc; "mzone-trace 1\n{space}\nround\n0 size a\n")?;
         not_built(&rt, alloc, trace.as_str(), 2)?;
     }
     Ok(())
 }
 
 #[test]
-fn spaces_of_any_pages_and_magazines(rt: HostRuntime) -> Result<(), Fail> {
+fn spaces_of_any_pages_magazines_and_nano(rt: HostRuntime) -> Result<(), Fail> {
     let alloc = rt.alloc();
-    for space in [
-        "space 1 callers 1 magazines 1 nano 0 gen 1 zones 1\n",
-        "space 65 callers 1 magazines 16 nano 0 gen 1024 zones 1\n",
-        "space 4096 callers 1 magazines 3 nano 0 gen 1024 zones 1\n",
+    for (space, bytes) in [
+        ("space 1 callers 1 magazines 1 nano 0 gen 1 zones 1\n", 0u64),
+        (
+            "space 8 callers 1 magazines 1 nano 8 gen 1024 zones 1\n",
+            131_072,
+        ),
+        (
+            "space 65 callers 1 magazines 16 nano 1 gen 1024 zones 1\n",
+            16_384,
+        ),
+        (
+            "space 4096 callers 1 magazines 3 nano 1024 gen 68719476735 zones 1\n",
+            16_777_216,
+        ),
     ] {
         let trace = format!(in alloc; "mzone-trace 1\n{space}")?;
         let run = format!(in alloc;
-            "mzone-run 1\n{space}end\nblocks_in_use 0\nsize_in_use 0\nmax_size_in_use 0\nsize_allocated 0\n"
+            "mzone-run 1\n{space}end\nblocks_in_use 0\nsize_in_use 0\nmax_size_in_use 0\nsize_allocated {bytes}\n"
         )?;
         let (status, output) = outcome(&rt, alloc, "run", trace.as_str())?;
         assert_eq!(rt; status, Status::Done, "{space}");

@@ -1,4 +1,4 @@
-use Rattle.mz_trace.proofs.TraceTextIsRead.{one_trace}
+use Rattle.mz_trace.proofs.TextsAreTraces.{one_trace}
 use Rattle.mz_trace.proofs.laws.one_trace.Goals as goal
 
 pub returns : goal.returns

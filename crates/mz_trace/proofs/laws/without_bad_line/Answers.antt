@@ -1,4 +1,4 @@
-use Rattle.mz_trace.proofs.TraceTextIsRead.{without_bad_line}
+use Rattle.mz_trace.proofs.TextsAreTraces.{without_bad_line}
 use Rattle.mz_trace.proofs.laws.without_bad_line.Goals as goal
 
 pub returns : goal.returns

@@ -1,4 +1,4 @@
-use Rattle.std.proofs.Common.{◌≡◌, ◌++◌, ap, ◌∙◌, string_bytes}
+use Rattle.std.proofs.Common.{◌++◌, ap, ◌∙◌, string_bytes}
 use Rattle.mz_words.specs.Table.{form_word}
 use Rattle.mz_words.proofs.WordsAreJoined.{written}
 use Rattle.mz_words.proofs.sentence.write_sentence.Goals as goal

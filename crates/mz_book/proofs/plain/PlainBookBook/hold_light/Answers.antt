@@ -53,8 +53,8 @@ invariant_of-self-clause-words g c =
     (held_word L b.profile b.history.items b.lawful b.caller (pairs_told b.quanta.items b.history.items) ws c.args.b c.args.j c.args.expect b.in_one_hand b.words c.requires.below lj c.requires.kind c.requires.free c.requires.owned w) b.words in
     subst (λ i. AreWords b.profile st b.caller (pairs_told b.quanta.items b.history.items) (set ws i (2 + c.from.result))) (sym at) (subst (λ v. AreWords b.profile st b.caller (pairs_told b.quanta.items b.history.items) (set ws (c.args.b * 1024 + c.args.j) (2 + v))) (sym c.from.ensures) h)
 
-pub returns-then-word-expect : goal.returns-then-word-expect
-returns-then-word-expect g c =
+pub returns-then-word-expect-clause-holds : goal.returns-then-word-expect-clause-holds
+returns-then-word-expect-clause-holds g c =
     let b = c.args.self.now in
     let L = c.of_histories.ensures in
     let st = after_all b.profile opening b.history.items in
@@ -77,8 +77,8 @@ returns-then-word-expect g c =
       after = ap f lit;
     }
 
-pub returns : goal.returns
-returns g c =
+pub returns-clause-holds : goal.returns-clause-holds
+returns-clause-holds g c =
     let b = c.args.self.now in
     let L = c.of_histories.ensures in
     let st = after_all b.profile opening b.history.items in

@@ -30,8 +30,8 @@ invariant_of-self-clause-of_class g c =
     ] in
     same_class b.profile (after_all b.profile opening b.history.items) cs c.args.b c.args.class b.class_count (λ j x h. (c.of_histories.ensures.ascending b.profile b.history.items b.lawful).sizes j x h) was b.of_class
 
-pub returns-then-word-eq0 : goal.returns-then-word-eq0
-returns-then-word-eq0 g c =
+pub returns-then-word-eq0-clause-settles : goal.returns-then-word-eq0-clause-settles
+returns-then-word-eq0-clause-settles g c =
     let b = c.args.self.now in
     let cs = b.classes.items in
     let below : c.args.b < length cs = subst (λ n. c.args.b < n) (sym b.class_count) c.requires.below in
@@ -44,8 +44,8 @@ returns-then-word-eq0 g c =
       after = refl;
     }
 
-pub returns : goal.returns
-returns g c =
+pub returns-clause-settles : goal.returns-clause-settles
+returns-clause-settles g c =
     let b = c.args.self.now in
     let cs = b.classes.items in
     let below : c.args.b < length cs = subst (λ n. c.args.b < n) (sym b.class_count) c.requires.below in

@@ -5,7 +5,7 @@ use Rattle.mz_rack.proofs.rack.Rack.free.Goals as goal
 
 pub find_home-home-requires : goal.find_home-home-requires
 find_home-home-requires g c =
-    can_look_for c.of_books.ensures (g.B.Book.account c.args.book.now) c.args.self.now.profile c.args.self.now.zone 3 c.args.lot c.requires.can c.requires.lot c.args.self.now.limits (g.met.B.Book.orderly c.args.book.now) c.requires.small
+    can_look_for c.of_books.ensures (g.B.Book.account c.args.book.now) c.args.self.now.profile c.args.self.now.zone 3 c.args.lot c.requires.can c.requires.lot c.args.self.now.limits (g.met.B.Book.orderly c.args.book.now)
 
 pub returns-then-zone-self : goal.returns-then-zone-self
 returns-then-zone-self g c =

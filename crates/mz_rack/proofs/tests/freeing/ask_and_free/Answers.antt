@@ -19,12 +19,9 @@ free-requires-clause-can g c =
 
 pub free-requires-clause-lot : goal.free-requires-clause-lot
 free-requires-clause-lot g c =
-    let p = c.args.rack.now.profile in
     let z = c.args.rack.now.zone in
-    let acts = can_as _ _ p z 0 c.requires.can c.act_as.ensures in
-    let more = can_with _ _ p z 36 acts c.in_ok-reserve.ensures.ok in
     let laws : HandLaws = record { through = c.hands_after_an_event.ensures.through; served = c.hands_after_requests.ensures.served } in
-    freeable _ _ _ p z 36 c.args.n 16 3 c.in-Ok.lot laws more c.args.rack.now.zone_in c.in-Ok.ensures c.in_ok-reserve-2.ensures.ok
+    freeable _ _ _ z c.args.n 16 3 c.in-Ok.lot laws c.in-Ok.ensures c.in_ok-reserve-2.ensures.ok
 
 pub alloc-requires-clause-power : goal.alloc-requires-clause-power
 alloc-requires-clause-power g c = (4, refl)

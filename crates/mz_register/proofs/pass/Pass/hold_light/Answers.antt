@@ -1,9 +1,11 @@
-use Rattle.std.proofs.Common.{◌-◌, length, Some, arith, sym, ap, ◌∙◌, subst}
+use Rattle.std.proofs.Common.{◌-◌, ◌∷◌, length, Some, arith, sym, ap, ◌∙◌, subst}
 use Rattle.mz_book.specs.Keepers.{keeper_count}
 use Rattle.mz_desk.specs.declared.view.View.{View}
 use Rattle.mz_desk.specs.Views.{view_account}
 use Rattle.mz_register.specs.Passes.{table_numbers, IsRested, keys, bare}
-use Rattle.mz_register.specs.Accounts.{pass_account}
+use Rattle.mz_base.specs.declared.profile.Profile.{Profile}
+use Rattle.mz_book.specs.Exchanges.{slot_place, clash_of}
+use Rattle.mz_register.specs.Accounts.{pass_account, exchanges_of}
 use Rattle.mz_register.specs.Orderly.{orderly}
 use Rattle.mz_register.proofs.PassLemmas.{rested_lit, knowing_same}
 use Rattle.mz_register.proofs.pass.Pass.hold_light.Goals as goal
@@ -57,3 +59,9 @@ pub invariant_of-self-clause-knowing : goal.invariant_of-self-clause-knowing
 invariant_of-self-clause-knowing g c =
     let e = (c.try_light-word.ensures.tries.got c.if-word-expect.true) in
     knowing_same c.args.self.now.seat.me.0 _ (ap (λ (z : View). z.profile) e) (ap (λ (z : View). z.caller) e) (ap (λ (z : View). z.seen) e) (ap (λ (z : View). z.noted) e) (ap (λ (z : View). z.pairs) e) c.args.self.now.knowing
+
+pub returns-clause-clash : goal.returns-clause-clash
+returns-clause-clash g c =
+    let v = c.args.self.now.seat.me.0 in
+    let n = c.try_light-word.result in
+    λ _. ap exchanges_of (c.try_light-word.ensures.tries.missed c.if-word-expect.false) ∙ ap (λ (q : Profile). record (exchanges_of v) { clashes = clash_of (slot_place q c.args.b c.args.j) c.args.expect n ∷ v.clashes }) (sym c.requires.of.profile)

@@ -1,9 +1,11 @@
-use Rattle.std.proofs.Common.{◌≡◌, ◌-◌, length, get_or, Some, arith, sym, ap, ◌∙◌, subst, inl, inr, ⊎_elim}
+use Rattle.std.proofs.Common.{◌≡◌, ◌-◌, ◌∷◌, length, get_or, Some, arith, sym, ap, ◌∙◌, subst, inl, inr, ⊎_elim}
 use Rattle.mz_book.specs.Keepers.{keeper_count}
 use Rattle.mz_desk.specs.declared.view.View.{View}
 use Rattle.mz_desk.specs.Views.{view_account}
 use Rattle.mz_register.specs.Passes.{table_numbers, IsRested, keys, bare}
-use Rattle.mz_register.specs.Accounts.{pass_account}
+use Rattle.mz_base.specs.declared.profile.Profile.{Profile}
+use Rattle.mz_book.specs.Exchanges.{class_place, clash_of}
+use Rattle.mz_register.specs.Accounts.{pass_account, exchanges_of}
 use Rattle.mz_book.specs.declared.light.Asked.TheVariants.{Settle}
 use Rattle.std.proofs.lemmas.Bool.{false≢true}
 use Rattle.mz_register.proofs.PassLemmas.{rested_class, knowing_same}
@@ -76,3 +78,9 @@ returns-clause-settles g c =
       alone = λ h. absurd (false≢true h);
       after = λ i. view_account (t.other c.if-word-eq0.false c.if-word-class.false i) (table_numbers (c.try_class-word.ensures.table i)) (p.limit - length p.noted.items) p.holds (c.saturating_add-self.ensures i) (Some (Settle c.args.b c.args.class));
     }
+
+pub returns-clause-clash : goal.returns-clause-clash
+returns-clause-clash g c =
+    let v = c.args.self.now.seat.me.0 in
+    let n = c.try_class-word.result in
+    λ _. ap exchanges_of (c.try_class-word.ensures.tries.other c.if-word-eq0.false c.if-word-class.false) ∙ ap (λ (q : Profile). record (exchanges_of v) { clashes = clash_of (class_place q c.args.b) 0 n ∷ v.clashes }) (sym c.requires.of.profile)

@@ -3,7 +3,7 @@ use Rattle.mz_book.specs.Keepers.{keeper_count}
 use Rattle.mz_desk.specs.declared.view.View.{View}
 use Rattle.mz_desk.specs.Views.{view_account}
 use Rattle.mz_register.specs.Passes.{table_numbers, IsRested, keys, bare}
-use Rattle.mz_register.specs.Accounts.{pass_account}
+use Rattle.mz_register.specs.Accounts.{pass_account, exchanges_of}
 use Rattle.std.proofs.lemmas.List.{reverse-append}
 use Rattle.mz_book.specs.Account.{StandsFor}
 use Rattle.mz_register.proofs.Rests.{knowing_of}
@@ -56,3 +56,15 @@ returns-in-Ok-clause-gains g c =
       gains c.of_histories.ensures (pass_account p) _ c.args.k _ x.others refl x.away (λ i. view_account (x.view i) (table_numbers (c.try_hold_once.ensures.table i)) (p.limit - length p.noted.items) p.holds p.founds p.found) x.calm,
       subst (λ (z : View). StandsFor (view_account z (table_numbers p.seat.table_id) 0 0 0 None) c.args.k (g.V.Keep.keeping c.in-Ok.keeper)) (sym x.view) x.stands,
     )
+
+pub returns-in-Err-clause-taken : goal.returns-in-Err-clause-taken
+returns-in-Err-clause-taken g c =
+    let p = c.args.self.now in
+    let x = c.in-Err.ensures.misses in
+    record {
+      some = x.some;
+      most = x.most;
+      other = x.other;
+      clash = λ _ i. exchanges_of (x.view i);
+      same = λ i. view_account (x.view i) (table_numbers (c.try_hold_once.ensures.table i)) (p.limit - length p.noted.items) p.holds p.founds p.found;
+    }

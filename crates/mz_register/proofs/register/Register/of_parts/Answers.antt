@@ -1,13 +1,18 @@
 use Rattle.std.proofs.Common.{ℕ, List, [], Option, length, reverse, arith, refl, sym, ap, ◌∙◌, subst}
 use Rattle.mz_events.specs.declared.entry.Entry.{Entry}
 use Rattle.mz_book.specs.Keepers.{keeper_count}
-use Rattle.mz_book.specs.Parts.{site_in, state_in}
+use Rattle.mz_book.specs.declared.light.Light.{Light}
+use Rattle.mz_book.specs.Account.{Account}
+use Rattle.mz_book.specs.Lights.{is_slot_live}
+use Rattle.mz_book.specs.Parts.{site_in, state_in, account_in}
 use Rattle.mz_book.specs.Rule.{AreHome}
 use Rattle.mz_desk.specs.declared.view.Opening.{Opening}
 use Rattle.mz_desk.specs.Keys.{opened_as}
 use Rattle.mz_desk.specs.Needs.{Seated}
 use Rattle.mz_register.specs.Passes.{IsRested, IsKnowing, keys, bare}
 use Rattle.mz_register.specs.Opened.{AreDealt}
+use Rattle.mz_register.specs.HandIn.{unspared}
+use Rattle.mz_register.proofs.FitLemmas.{none_lit_apart}
 use Rattle.mz_register.proofs.WordLemmas.{can_open, few_keepers, word_length}
 use Rattle.mz_register.proofs.FirstLemmas.{first_rested, first_knowing, all_opened}
 use Rattle.mz_register.proofs.register.Register.of_parts.Goals as goal
@@ -41,6 +46,27 @@ invariant_of-register-clause-slots g c = c.in-Ok-new.ensures.ok.1 ∙ c.requires
 
 pub invariant_of-register-clause-profile : goal.invariant_of-register-clause-profile
 invariant_of-register-clause-profile g c = ap (λ (o : Opening g.row.V.Denot). o.profile) c.in-Ok-new.ensures.ok.5
+
+pub invariant_of-register-clause-history : goal.invariant_of-register-clause-history
+invariant_of-register-clause-history g c = ap (λ (o : Opening g.row.V.Denot). o.history.items) c.in-Ok-new.ensures.ok.5
+
+pub invariant_of-register-clause-quanta : goal.invariant_of-register-clause-quanta
+invariant_of-register-clause-quanta g c = ap (λ (o : Opening g.row.V.Denot). o.quanta.items) c.in-Ok-new.ensures.ok.5
+
+pub invariant_of-register-clause-site : goal.invariant_of-register-clause-site
+invariant_of-register-clause-site g c = ∣ ap (λ (o : Opening g.row.V.Denot). o.site) c.in-Ok-new.ensures.ok.5 ∣₁
+
+pub invariant_of-register-clause-caller : goal.invariant_of-register-clause-caller
+invariant_of-register-clause-caller g c = c.requires.caller
+
+pub invariant_of-register-clause-quantum_count : goal.invariant_of-register-clause-quantum_count
+invariant_of-register-clause-quantum_count g c = c.requires.quanta
+
+pub invariant_of-register-clause-class_count : goal.invariant_of-register-clause-class_count
+invariant_of-register-clause-class_count g c = c.requires.class_count
+
+pub invariant_of-register-clause-slot_count : goal.invariant_of-register-clause-slot_count
+invariant_of-register-clause-slot_count g c = c.requires.slot_count
 
 pub invariant_of-first-clause-rested : goal.invariant_of-first-clause-rested
 invariant_of-first-clause-rested g c =
@@ -93,3 +119,10 @@ returns-clause-err g c =
       },
       refl,
     )
+
+pub returns-in-Ok-new-clause-former : goal.returns-in-Ok-new-clause-former
+returns-in-Ok-new-clause-former g c =
+    let x = c.args.parts in
+    let s = unspared (account_in g.V.Keep.keeping x) in
+    let f : List Light → Account = λ ls. record s { lights = ls } in
+    sym (ap f (none_lit_apart x.profile.nano x.slots.items (λ b j. is_slot_live x.profile (state_in x) b j) c.requires.slot_count c.requires.words))

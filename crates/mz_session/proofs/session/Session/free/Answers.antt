@@ -26,7 +26,7 @@ returns-in_default-remove g c =
     let s : SessionView = c.args.self.now in
     let word = c.in-Base.base in
     let is = sym c.get.ensures ∙ c.in-Base.is in
-    let b = (the_view (record { rack = c.self.inside.rack; book = c.reserve.new.self; lots = c.self.inside.lots })).book in
+    let b = (the_view (record { rack = c.self.inside.rack; book = c.reserve.new.self; lots = c.self.inside.lots; nano = c.self.inside.nano })).book in
     let lots = c.remove.new.self in
     let room : HasMoreRoom s.book b = subst (λ x. HasMoreRoom x.book b) c.self.view_is c.in_ok-reserve.ensures.ok.after in
     let none : lot_named s.lots word ≡ None = ap (λ x. lot_named x.lots word) (sym c.self.view_is) ∙ sym c.in_default-remove.ensures.lot in
@@ -38,7 +38,7 @@ returns-in_default-remove g c =
 pub free-got-requires-clause-can : goal.free-got-requires-clause-can
 free-got-requires-clause-can g c =
     let s : SessionView = c.args.self.now in
-    let b = (the_view (record { rack = c.self.inside.rack; book = c.reserve.new.self; lots = c.self.inside.lots })).book in
+    let b = (the_view (record { rack = c.self.inside.rack; book = c.reserve.new.self; lots = c.self.inside.lots; nano = c.self.inside.nano })).book in
     let room : HasMoreRoom s.book b = subst (λ x. HasMoreRoom x.book b) c.self.view_is c.in_ok-reserve.ensures.ok.after in
     subst (λ x. CanServe b x.rack.profile x.rack.zone 3) (sym c.self.view_is) (can-serve s c.requires b room 3 (let many = c.in_ok-reserve.ensures.ok.room in omega (arith, many)))
 
@@ -46,17 +46,10 @@ pub free-got-requires-clause-lot : goal.free-got-requires-clause-lot
 free-got-requires-clause-lot g c =
     let s : SessionView = c.args.self.now in
     let word = c.in-Base.base in
-    let b = (the_view (record { rack = c.self.inside.rack; book = c.reserve.new.self; lots = c.self.inside.lots })).book in
+    let b = (the_view (record { rack = c.self.inside.rack; book = c.reserve.new.self; lots = c.self.inside.lots; nano = c.self.inside.nano })).book in
     let room : HasMoreRoom s.book b = subst (λ x. HasMoreRoom x.book b) c.self.view_is c.in_ok-reserve.ensures.ok.after in
     let held : lot_named s.lots word ≡ Some c.in-Some.lot = ap (λ x. lot_named x.lots word) (sym c.self.view_is) ∙ sym c.remove.ensures.lot ∙ c.in-Some.is in
     freeable s c.requires b room word c.in-Some.lot held
-
-pub free-got-requires-clause-small : goal.free-got-requires-clause-small
-free-got-requires-clause-small g c =
-    let s : SessionView = c.args.self.now in
-    let word = c.in-Base.base in
-    let held : lot_named s.lots word ≡ Some c.in-Some.lot = ap (λ x. lot_named x.lots word) (sym c.self.view_is) ∙ sym c.remove.ensures.lot ∙ c.in-Some.is in
-    (c.requires.of_space word c.in-Some.lot held).small
 
 pub unreachable-requires : goal.unreachable-requires
 unreachable-requires g c =
@@ -72,8 +65,8 @@ returns g c =
     let is = sym c.get.ensures ∙ c.in-Base.is in
     let l : LotView = c.in-Some.lot in
     let lots = c.remove.new.self in
-    let b = (the_view (record { rack = c.self.inside.rack; book = c.reserve.new.self; lots = c.self.inside.lots })).book in
-    let t = (the_view (record { rack = c.self.inside.rack; book = c.free-got.new.book; lots = c.self.inside.lots })).book in
+    let b = (the_view (record { rack = c.self.inside.rack; book = c.reserve.new.self; lots = c.self.inside.lots; nano = c.self.inside.nano })).book in
+    let t = (the_view (record { rack = c.self.inside.rack; book = c.free-got.new.book; lots = c.self.inside.lots; nano = c.self.inside.nano })).book in
     let room : HasMoreRoom s.book b = subst (λ x. HasMoreRoom x.book b) c.self.view_is c.in_ok-reserve.ensures.ok.after in
     let held : lot_named s.lots word ≡ Some l = ap (λ x. lot_named x.lots word) (sym c.self.view_is) ∙ sym c.remove.ensures.lot ∙ c.in-Some.is in
     let with_it : AreWith s.lots word None lots = subst (λ x. AreWith x.lots word None lots) c.self.view_is c.remove.ensures.others in

@@ -9,9 +9,9 @@ use Rattle.mz_trace.specs.declared.tail.Listed.{Listed}
 use Rattle.mz_trace.specs.declared.tail.Statistics.{Statistics}
 use Rattle.mz_fit.specs.Tail.{listing_of, statistics_of}
 use Rattle.mz_session.specs.Names.{blocks_named}
-use Rattle.mz_session.specs.Counts.{AreLive}
+use Rattle.mz_session.specs.Counts.{AreLive, AreBelowNano}
 use Rattle.mz_session.specs.Sessions.{SessionView, IsKept}
-use Rattle.mz_session.proofs.TailLemmas.{lots-are-live}
+use Rattle.mz_session.proofs.TailLemmas.{lots-are-live, lots-are-below}
 use Rattle.mz_session.proofs.session.Session.tail.Goals as goal
 
 pub is_lawful-requires : goal.is_lawful-requires
@@ -42,7 +42,8 @@ returns-clause-tail c = λ v stands.
     let lawful : AreLawful s.book.profile opening s.book.seen = subst (λ (x : SessionView). AreLawful x.book.profile opening x.book.seen) c.self.view_is c.of_book.ensures.lawful in
     let live : AreLive (blocks_named s.lots) (state_of s.book) = lots-are-live s kept rule in
     let blocks = c.deref.ensures.value ∙ c.in_ok-blocks.ensures ∙ ap (λ (x : SessionView). blocks_named x.lots) c.self.view_is in
-    let listed = c.in_ok-listing.ensures s.book.profile s.book.seen v limits kept.for_one lawful (subst (λ bs. AreLive bs (state_of s.book)) (sym blocks) live) stands.zones in
+    let below = subst (AreBelowNano s.book.profile) (sym blocks) (lots-are-below s kept) in
+    let listed = c.in_ok-listing.ensures s.book.profile s.book.seen v limits kept.for_one lawful (subst (λ bs. AreLive bs (state_of s.book)) (sym blocks) live) below stands.zones in
     let numbers = c.statistics.ensures
     ∙ (ap (λ p. statistics_of p (after_all p opening c.history.result.now)) c.profile.ensures
     ∙ (ap (λ es. statistics_of c.self.inside.book.profile (after_all c.self.inside.book.profile opening es)) c.history.ensures

@@ -1,0 +1,279 @@
+-- The keepers of the tests stand for the places of their profiles, and one of them may be held while an event is noted.
+use Rattle.std.proofs.Common.{◌≡◌, ℕ, ◌+◌, ◌-◌, ◌<◌, ◌≤◌, List, [], ◌∷◌, ◌++◌, true, refl, ap, sym, subst, ◌∙◌, zero, suc, arith, length, length-append, get_or, Some, None, ne_eqb}
+use Rattle.std.specs.Prelude.{map, slice_get}
+use Rattle.std.specs.List.{list_all}
+use Rattle.std.proofs.lemmas.Bool.{false≢true}
+use Rattle.std.proofs.lemmas.List.Elements.{All-nil, All-cons}
+use Rattle.mz_base.specs.declared.profile.Profile.{Profile}
+use Rattle.mz_base.specs.Limits.{IsWithinLimits}
+use Rattle.mz_base.specs.Site.{Site}
+use Rattle.mz_events.specs.declared.place.Place.{Place}
+use Rattle.mz_events.specs.declared.place.Place.TheVariants.{Large}
+use Rattle.mz_events.specs.Places.{Spot, keeper_at, spot_of}
+use Rattle.mz_events.specs.State.{Kept, nothing_kept, is_open, opening}
+use Rattle.mz_events.specs.History.{after_all}
+use Rattle.mz_events.specs.declared.entry.Entry.{Entry}
+use Rattle.mz_book.specs.declared.pair.Pair.{Pair}
+use Rattle.atomic_table.specs.Seated.{TableId}
+use Rattle.mz_register.specs.Passes.{IsOf}
+use Rattle.mz_register.specs.Opened.{IsFresh}
+use Rattle.mz_events.specs.Room.{any_fits}
+use Rattle.mz_events.specs.Fitting.{FitsByEvent}
+use Rattle.mz_events.specs.Holding.{read_spots, ReadsHeld}
+use Rattle.mz_events.specs.Standing.{Keeping, Stands, of_pages}
+use Rattle.mz_book.specs.Keepers.{keeper_spot, place_at, is_held}
+use Rattle.mz_book.specs.Account.{Account, state_of, known, holds_spot, StandsFor}
+use Rattle.mz_book.specs.Calls.{CanHoldLight, CanHold, Holds, CanNote, Notes, CanRelease, Releases}
+use Rattle.mz_book.specs.Rule.{IsThere}
+use Rattle.mz_book.specs.Plain.{StandAtFirst, last_site, Reserves}
+use Rattle.mz_book.specs.Lights.{slots_of, has_light, light_at}
+use Rattle.mz_register.specs.declared.pass.Pass.{Pass}
+use Rattle.mz_register.specs.declared.register.Register.{Register}
+use Rattle.mz_register.specs.Accounts.{pass_account}
+use Rattle.mz_register.specs.HandIn.{AreAll, IsIdleOf}
+use Rattle.mz_register.specs.Toys.{toy, toy_site, toy_profile, large_is_full, MayBeFull, WasFull, MayLight, IsLike, WasDark, IsReady}
+use Rattle.mz_register.proofs.MergeLemmas.{some_is}
+
+pub keeping_is : {V : Type 0} (number : V → ℕ) (vs : List V) → map (λ v. toy (number v)) vs ≡ map toy (map number vs)
+keeping_is number [] = refl
+keeping_is number (v ∷ vs) = ap (λ ks. toy (number v) ∷ ks) (keeping_is number vs)
+
+pub toy_limits : (n : ℕ) → n < 2 → IsWithinLimits (toy_profile n)
+toy_limits n l = record {
+  pages = (omega arith, omega arith);
+  callers = (omega arith, omega arith);
+  magazines = (omega arith, omega arith);
+  nano = (omega arith, omega arith);
+  nano_within = omega arith;
+  most_gen = (omega arith, omega arith);
+  zones = (omega arith, omega arith);
+}
+
+pub toys_stand : (n : ℕ) → n < 2 → StandAtFirst (toy_profile n) (map toy (0 ∷ 1 ∷ 2 ∷ 3 ∷ 4 ∷ 5 ∷ []))
+unfolding place_at
+toys_stand zero l = record { count = refl; each = each }
+  where
+    each : (k : ℕ) → k < 6 → IsThere (λ v. Stands v (last_site (map toy (0 ∷ 1 ∷ 2 ∷ 3 ∷ 4 ∷ 5 ∷ []))) (toy_profile 0) (place_at (toy_profile 0) k) nothing_kept) (slice_get (map toy (0 ∷ 1 ∷ 2 ∷ 3 ∷ 4 ∷ 5 ∷ [])) k)
+    each zero l = record { kind = refl; quantum = refl; length = refl; space = tt; room = omega arith; keeps = refl }
+    each (suc zero) l = record { kind = refl; quantum = refl; length = refl; space = tt; room = omega arith; keeps = refl }
+    each (suc (suc zero)) l = record { kind = refl; quantum = refl; length = refl; space = tt; room = omega arith; keeps = refl }
+    each (suc (suc (suc zero))) l = record { kind = refl; quantum = refl; length = refl; space = tt; room = omega arith; keeps = refl }
+    each (suc (suc (suc (suc zero)))) l = record { kind = refl; space = tt; room = omega arith; keeps = refl }
+    each (suc (suc (suc (suc (suc zero))))) l = record { kind = refl; space = refl; free = refl; tiny = refl; small = refl }
+    each (suc (suc (suc (suc (suc (suc k)))))) l = absurd (omega arith)
+toys_stand (suc zero) l = record { count = refl; each = each }
+  where
+    each : (k : ℕ) → k < 6 → IsThere (λ v. Stands v (last_site (map toy (0 ∷ 1 ∷ 2 ∷ 3 ∷ 4 ∷ 5 ∷ []))) (toy_profile 1) (place_at (toy_profile 1) k) nothing_kept) (slice_get (map toy (0 ∷ 1 ∷ 2 ∷ 3 ∷ 4 ∷ 5 ∷ [])) k)
+    each zero l = record { kind = refl; quantum = refl; length = refl; space = tt; room = omega arith; keeps = refl }
+    each (suc zero) l = record { kind = refl; quantum = refl; length = refl; space = tt; room = omega arith; keeps = refl }
+    each (suc (suc zero)) l = record { kind = refl; quantum = refl; length = refl; space = tt; room = omega arith; keeps = refl }
+    each (suc (suc (suc zero))) l = record { kind = refl; quantum = refl; length = refl; space = tt; room = omega arith; keeps = refl }
+    each (suc (suc (suc (suc zero)))) l = record { kind = refl; space = tt; room = omega arith; keeps = refl }
+    each (suc (suc (suc (suc (suc zero))))) l = record { kind = refl; space = refl; free = refl; tiny = refl; small = refl }
+    each (suc (suc (suc (suc (suc (suc k)))))) l = absurd (omega arith)
+toys_stand (suc (suc n)) l = absurd (omega arith)
+
+-- keeper 4 is that of large
+large_is : (p : Profile) → p ≡ toy_profile 0 → keeper_spot p 4 ≡ keeper_at (Large 0)
+unfolding place_at
+large_is p e = ap (λ (q : Profile). keeper_spot q 4) e
+
+last_toy : (n : ℕ) → 5 ≤ n → toy n ≡ of_pages (record { space = toy_site; free = true ∷ []; tiny_blanks = 0; small_blanks = 0 })
+last_toy n l = rw (ne_eqb n 0 (λ e. absurd (omega arith)), ne_eqb n 1 (λ e. absurd (omega arith)), ne_eqb n 2 (λ e. absurd (omega arith)), ne_eqb n 3 (λ e. absurd (omega arith)), ne_eqb n 4 (λ e. absurd (omega arith))) refl
+
+-- a toy that stands for large keeps nothing
+keeps_none : (n : ℕ) (x : Site) (p : Profile) (k : Kept) → Stands (toy n) x p (Large 0) k → k ≡ nothing_kept
+keeps_none zero x p k h = absurd (false≢true h.kind)
+keeps_none (suc zero) x p k h = absurd (false≢true h.kind)
+keeps_none (suc (suc zero)) x p k h = absurd (false≢true h.kind)
+keeps_none (suc (suc (suc zero))) x p k h = absurd (false≢true h.kind)
+keeps_none (suc (suc (suc (suc zero)))) x p k h = sym h.keeps
+keeps_none (suc (suc (suc (suc (suc n))))) x p k h = absurd (false≢true (subst (λ (v : Keeping). Stands v x p (Large 0) k) (last_toy (suc (suc (suc (suc (suc n))))) (omega arith)) h).kind)
+
+place_is : (p : Profile) → p ≡ toy_profile 0 → place_at p 4 ≡ Large 0
+unfolding place_at
+place_is p e = ap (λ (q : Profile). place_at q 4) e
+
+pub can_hold : (s : Account) → MayBeFull s 1 → CanHold s 4
+can_hold s may = record { exists = subst (λ (p : Profile). 4 < Rattle.mz_book.specs.Keepers.keeper_count p) (sym may.profile) (omega arith); above_held = ap (λ xs. list_all (λ x. Rattle.std.specs.Prelude.nat_lt x 4) xs) may.nothing_held }
+
+module _ (s t u w : Account) (n ticket : ℕ) (may : MayBeFull s 1) (h : Holds s 4 t) (stands : StandsFor t 4 (toy n)) where
+  p1 : t.profile ≡ toy_profile 0
+  p1 = ap (λ (a : Account). a.profile) h.after ∙ may.profile
+
+  held1 : t.held ≡ 4 ∷ []
+  held1 = ap (λ (a : Account). a.held) h.after ∙ ap (λ xs. xs ++ 4 ∷ []) may.nothing_held
+
+  calm1 : (known t (keeper_at (Large 0))).duty ≡ None
+  calm1 = ap (λ j. (known t j).duty) (sym (large_is s.profile may.profile)) ∙ h.calm
+
+  kept1 : (known t (keeper_at (Large 0))).kept ≡ nothing_kept
+  kept1 = keeps_none n t.site t.profile (known t (keeper_at (Large 0))).kept
+      (subst (λ (q : Place). Stands (toy n) t.site t.profile q (known t (keeper_at (Large 0))).kept) (place_is t.profile p1) (subst (λ (j : Spot). Stands (toy n) t.site t.profile (place_at t.profile 4) (known t j).kept) (large_is t.profile p1) stands))
+
+  large_held : is_held t.profile t.held (keeper_at (Large 0)) ≡ true
+  large_held = ap (λ (p : Profile). is_held p t.held (keeper_at (Large 0))) p1 ∙ ap (λ xs. is_held (toy_profile 0) xs (keeper_at (Large 0))) held1
+
+  pub can_note : FitsByEvent t.profile (state_of t) t.caller → ReadsHeld t.profile (holds_spot t) large_is_full → CanNote t large_is_full
+  can_note fits reads = record {
+    room = let r = ap (λ (a : Account). a.spare) h.after in let m = may.room in omega arith;
+    between = λ y. absurd (false≢true y);
+    in_hand = refl;
+    by_held = λ y. record {
+      held = reads;
+      fits = (fits.full (Large 0) 1 1).1 (record {
+        standing = record {
+          caller = let e = ap (λ (p : Profile). p.callers) p1 in let c = ap (λ (a : Account). a.caller) h.after in let m = may.caller in omega arith;
+          exists = ap (λ (p : Profile). Rattle.mz_events.specs.Places.exists_in p (Large 0)) p1;
+          zone_open = h.zones 0 ∙ may.zone_open;
+        };
+        kind = refl;
+        calm = calm1;
+        some = omega arith;
+        some_alignment = omega arith;
+        no_room = λ z. absurd (false≢true (sym z));
+        none_fits = λ z. ap (λ (k : Kept). any_fits k.cached 1) kept1;
+      });
+    };
+    at_nano = λ y. absurd (false≢true y);
+  }
+
+  pub reads_large : (All-held : Rattle.std.specs.List.All (λ j. holds_spot t j ≡ true) (read_spots t.profile large_is_full) → ReadsHeld t.profile (holds_spot t) large_is_full) → ReadsHeld t.profile (holds_spot t) large_is_full
+  reads_large f = f (All-cons (λ j. holds_spot t j ≡ true) (keeper_at (Large 0)) [] large_held (All-nil (λ j. holds_spot t j ≡ true)))
+
+  module _ (k : Notes t large_is_full ticket u) where
+    p2 : u.profile ≡ toy_profile 0
+    p2 = ap (λ (a : Account). a.profile) k.after ∙ p1
+
+    learnt : known u (keeper_at (Large 0)) ≡ Rattle.mz_events.specs.Effect.value_after (state_of t) t.caller large_is_full (keeper_at (Large 0))
+    learnt = k.learns (keeper_at (Large 0)) large_held
+
+    pub can_release : CanRelease u 4
+    can_release = record {
+      held = ap (λ (a : Account). Rattle.mz_book.specs.Keepers.is_among a.held 4) k.after ∙ ap (λ xs. Rattle.mz_book.specs.Keepers.is_among xs 4) held1;
+      calm = ap (λ j. (known u j).duty) (large_is u.profile p2) ∙ ap (λ v. v.duty) learnt;
+    }
+
+    pub stands_again : StandsFor u 4 (toy n)
+    stands_again =
+        let kept : (known u (keeper_spot u.profile 4)).kept ≡ (known t (keeper_spot t.profile 4)).kept = ap (λ j. (known u j).kept) (large_is u.profile p2) ∙ (ap (λ v. v.kept) learnt ∙ ap (λ j. (known t j).kept) (sym (large_is t.profile p1))) in
+        subst (λ (x : Site). Stands (toy n) x u.profile (place_at u.profile 4) (known u (keeper_spot u.profile 4)).kept) (sym (ap (λ (a : Account). a.site) k.after))
+        (subst (λ (p : Profile). Stands (toy n) t.site p (place_at p 4) (known u (keeper_spot u.profile 4)).kept) (sym (ap (λ (a : Account). a.profile) k.after))
+        (subst (λ (z : Kept). Stands (toy n) t.site t.profile (place_at t.profile 4) z) (sym kept) stands))
+
+    pub was_full : Releases u 4 w → WasFull s ticket w
+    was_full r = record {
+      name = ap (λ (a : Account). a.name) r.after ∙ (ap (λ (a : Account). a.name) k.after ∙ ap (λ (a : Account). a.name) h.after);
+      caller = ap (λ (a : Account). a.caller) r.after ∙ (ap (λ (a : Account). a.caller) k.after ∙ ap (λ (a : Account). a.caller) h.after);
+      profile = ap (λ (a : Account). a.profile) r.after ∙ (ap (λ (a : Account). a.profile) k.after ∙ ap (λ (a : Account). a.profile) h.after);
+      between = ap (λ (a : Account). a.between) r.after ∙ (ap (λ (a : Account). a.between) k.after ∙ ap (λ (a : Account). a.between) h.after);
+      lights = ap (λ (a : Account). a.lights) r.after ∙ (ap (λ (a : Account). a.lights) k.after ∙ ap (λ (a : Account). a.lights) h.after);
+      nothing_held = ap (λ (a : Account). a.held) r.after ∙ ap (λ xs. Rattle.mz_book.specs.Calls.without 4 xs) (ap (λ (a : Account). a.held) k.after ∙ held1);
+      noted = ap (λ (a : Account). a.noted) r.after ∙ (ap (λ (a : Account). a.noted) k.after ∙ ap (λ (a : Account). a.noted ++ Rattle.mz_book.specs.Account.entry_at ticket a.caller large_is_full ∷ []) h.after);
+      spare = ap (λ (a : Account). a.spare) r.after ∙ (ap (λ (a : Account). a.spare) k.after ∙ ap (λ (a : Account). a.spare - 1) h.after);
+      zones = ap (λ (a : Account). is_open (state_of a) 0) r.after ∙ (k.zones 0 ∙ h.zones 0);
+    }
+
+-- how tests go on
+
+pub fewer : (s : Account) (m n : ℕ) → n ≤ m → MayBeFull s m → MayBeFull s n
+fewer s m n l may = record { profile = may.profile; caller = may.caller; nothing_held = may.nothing_held; room = let r = may.room in omega arith; zone_open = may.zone_open }
+
+pub again : (s t : Account) (ticket m n : ℕ) → n + 1 ≤ m → MayBeFull s m → WasFull s ticket t → MayBeFull t n
+again s t ticket m n l may was = record {
+  profile = was.profile ∙ may.profile;
+  caller = let c = was.caller in let m = may.caller in omega arith;
+  nothing_held = was.nothing_held;
+  room = let a = was.spare in let r = may.room in omega arith;
+  zone_open = was.zones ∙ may.zone_open;
+}
+
+pub same_of : (z : TableId) (p : Profile) (s t : Account) (ticket : ℕ) → IsOf z p s → WasFull s ticket t → IsOf z p t
+same_of z p s t ticket o was = record { name = was.name ∙ o.name; profile = was.profile ∙ o.profile }
+
+zone_at_first : (p : Profile) → is_open (after_all p opening []) 0 ≡ true
+unfolding after_all
+zone_at_first p = refl
+
+-- a book of which nothing was asked yet but room
+pub may_at_first : (s t : Account) (n : ℕ) → s.profile ≡ toy_profile 0 → s.caller < 2 → s.held ≡ [] → s.seen ≡ [] → Reserves s n t → MayBeFull t n
+may_at_first s t n p c h e r = record {
+  profile = ap (λ (a : Account). a.profile) r.after ∙ p;
+  caller = let x = ap (λ (a : Account). a.caller) r.after in omega arith;
+  nothing_held = ap (λ (a : Account). a.held) r.after ∙ h;
+  room = r.room;
+  zone_open = ap (λ (a : Account). is_open (state_of a) 0) r.after ∙ (ap (λ es. is_open (after_all s.profile opening es) 0) e ∙ zone_at_first s.profile);
+}
+
+pub of_at_first : (z : TableId) (q p : Profile) (x : Site) (es : List Entry) (hs : List Pair) (c n : ℕ) (s t : Account) → q ≡ p → IsFresh z p x es hs c s → Reserves s n t → IsOf z q t
+of_at_first z q p x es hs c n s t e f r = record { name = ap (λ (a : Account). a.name) r.after ∙ f.name; profile = ap (λ (a : Account). a.profile) r.after ∙ (f.profile ∙ sym e) }
+
+-- passes that sit at a register
+
+pub sits_again : (z : TableId) (p : Profile) (c : ℕ) (s t : Account) (ticket : ℕ) → WasFull s ticket t → IsIdleOf z p c s → IsIdleOf z p c t
+sits_again z p c s t ticket was i = record { of = same_of z p s t ticket i.of was; caller = was.caller ∙ i.caller; idle = record { keepers = was.nothing_held; lights = was.lights ∙ i.idle.lights } }
+
+pub of_like : (z : TableId) (p : Profile) (s t : Account) → IsLike s t → IsOf z p s → IsOf z p t
+of_like z p s t l o = record { name = l.name ∙ o.name; profile = l.profile ∙ o.profile }
+
+pub sits_like : (z : TableId) (p : Profile) (c : ℕ) (s t : Account) → IsLike s t → IsIdleOf z p c s → IsIdleOf z p c t
+sits_like z p c s t l i = record { of = of_like z p s t l i.of; caller = l.caller ∙ i.caller; idle = record { keepers = l.held ∙ i.idle.keepers; lights = l.lights ∙ i.idle.lights } }
+
+pub ready : {V : Type 0} (r : Register V) (p : Profile) (x : Site) (hs : List Pair) (c n : ℕ) (s : Account) (y : Pass V) → r.opening.profile ≡ p → IsFresh r.table.shared.table_id p x [] hs c s → Reserves s n (pass_account y) → IsReady n r c y
+ready r p x hs c n s y e f v = record {
+  sits = record {
+    of = of_at_first r.table.shared.table_id r.opening.profile p x [] hs c n s (pass_account y) e f v;
+    caller = ap (λ (a : Account). a.caller) v.after ∙ f.caller;
+    idle = record { keepers = ap (λ (a : Account). a.held) v.after ∙ f.held; lights = ap (λ (a : Account). a.lights) v.after ∙ f.lights };
+  };
+  room = v.room;
+  seen = ap (λ (a : Account). a.seen) v.after ∙ f.seen;
+}
+
+pub may_when_ready : {V : Type 0} (r : Register V) (c n : ℕ) (x : Pass V) → r.opening.profile ≡ toy_profile 0 → c < 2 → IsReady n r c x → MayBeFull (pass_account x) n
+may_when_ready r c n x e l y = record {
+  profile = y.sits.of.profile ∙ e;
+  caller = let k = y.sits.caller in omega arith;
+  nothing_held = y.sits.idle.keepers;
+  room = y.room;
+  zone_open = ap (λ es. is_open (after_all (pass_account x).profile opening es) 0) y.seen ∙ zone_at_first (pass_account x).profile;
+}
+
+pub both_are_all : {V : Type 0} (z : TableId) (p : Profile) (x y : Pass V) → p.callers ≡ 2 → IsIdleOf z p 0 (pass_account x) → IsIdleOf z p 1 (pass_account y) → AreAll z p (x ∷ y ∷ [])
+both_are_all {V} z p x y n i j = record { count = sym n; each = each }
+  where
+    each : (c : ℕ) (w : Pass V) → slice_get (x ∷ y ∷ []) c ≡ Some w → IsIdleOf z p c (pass_account w)
+    each zero w e = subst (λ (q : Pass V). IsIdleOf z p 0 (pass_account q)) (some_is x w e) i
+    each (suc zero) w e = subst (λ (q : Pass V). IsIdleOf z p 1 (pass_account q)) (some_is y w e) j
+    each (suc (suc c)) w e = absurd (cc)
+
+-- the light of a slot of the first block
+slots_enough : (j : ℕ) → j < 1024 → j < slots_of 1
+slots_enough j l = omega arith
+
+pub can_light : (s : Account) (j : ℕ) → j < 1024 → MayLight s → CanHoldLight s 0 j 0
+can_light s j l may = record {
+  below = let k = may.some in omega arith;
+  kind = omega arith;
+  free = ap (λ ls. has_light ls (light_at 0 j)) may.dark;
+  settled = λ e. let k = may.settled in omega arith;
+  there = λ e. subst (λ (n : ℕ). j < slots_of n) (sym may.settled) (slots_enough j l);
+  owned = λ e. absurd (omega arith);
+}
+
+-- the two that were taken out of a list of two
+pub two_taken : {A : Type 0} (all less none : List A) (x y : A) → all ≡ less ++ y ∷ [] → less ≡ none ++ x ∷ [] → length all ≡ 2 → (slice_get all 0 ≡ Some x) × (slice_get all 1 ≡ Some y)
+two_taken all less [] x y e f n = let w : all ≡ x ∷ y ∷ [] = e ∙ ap (λ zs. zs ++ y ∷ []) f in (ap (λ zs. slice_get zs 0) w, ap (λ zs. slice_get zs 1) w)
+two_taken all less (z ∷ zs) x y e f n =
+    let a = ap length e in
+    let b = length-append less (y ∷ []) in
+    let c = ap length f in
+    let d = length-append (z ∷ zs) (x ∷ []) in
+    absurd (omega arith)
+
+pub dark_again : (s t : Account) → WasDark s t → MayLight s → MayLight t
+dark_again s t was may = record {
+  some = let p = ap (λ (p : Profile). p.nano) was.like.profile in let k = may.some in omega arith;
+  dark = was.like.lights ∙ may.dark;
+  settled = ap (λ xs. get_or xs 0 0) was.settled ∙ may.settled;
+}

@@ -1,0 +1,91 @@
+-- Keepers for tests, by number, of a space with one page below nano's.
+use Rattle.std.specs.Prelude.{◌≡◌, ℕ, ◌+◌, ◌-◌, ◌==◌, ◌<◌, ◌≤◌, true, false, [], ◌∷◌, ◌++◌, None, if◌then◌else◌}
+use Rattle.mz_base.specs.declared.profile.Profile.{Profile}
+use Rattle.mz_base.specs.Site.{Site}
+use Rattle.mz_events.specs.declared.event.Event.{Event}
+use Rattle.mz_events.specs.declared.event.Event.TheVariants.{Full}
+use Rattle.mz_events.specs.declared.place.Place.TheVariants.{Large}
+use Rattle.mz_events.specs.State.{nothing_kept, is_open}
+use Rattle.mz_events.specs.Standing.{Keeping, of_regions, of_large, of_pages}
+use Rattle.mz_book.specs.Account.{Account, state_of, class_of, entry_at}
+use Rattle.mz_register.specs.declared.pass.Pass.{Pass}
+use Rattle.mz_register.specs.declared.register.Register.{Register}
+use Rattle.mz_register.specs.Accounts.{pass_account}
+use Rattle.mz_register.specs.HandIn.{IsIdleOf}
+
+-- two callers; zone 0 alone, with one magazine of each range; and so many pages of nano behind one other
+abbrev pub toy_profile : ℕ → Profile
+toy_profile nano = record { pages = 1 + nano; callers = 2; magazines = 1; nano = nano; most_gen = 1; zones = 1 }
+
+-- the space in which they stand
+abbrev pub toy_site : Site
+toy_site = record { name = 0; block = 0; origin = 0; size = 0 }
+
+-- what the keeper of this number keeps
+abbrev pub toy : ℕ → Keeping
+toy n =
+    if n == 0 then of_regions (record { depot = false; quantum = 16; pages = 64; room = 0; space = None; kept = nothing_kept })
+    else (if n == 1 then of_regions (record { depot = true; quantum = 16; pages = 64; room = 0; space = None; kept = nothing_kept })
+    else (if n == 2 then of_regions (record { depot = false; quantum = 512; pages = 512; room = 0; space = None; kept = nothing_kept })
+    else (if n == 3 then of_regions (record { depot = true; quantum = 512; pages = 512; room = 0; space = None; kept = nothing_kept })
+    else (if n == 4 then of_large (record { room = 0; space = None; kept = nothing_kept })
+    else of_pages (record { space = toy_site; free = true ∷ []; tiny_blanks = 0; small_blanks = 0 })))))
+
+-- large of zone 0 has no room for a byte
+abbrev pub large_is_full : Event
+large_is_full = Full (Large 0) 1 1
+
+-- a book of toys that holds nothing, has room for n entries, and whose zone is open
+pub record MayBeFull (s : Account) (n : ℕ) : Type 0 where
+  pub profile : s.profile ≡ toy_profile 0
+  pub caller : s.caller < 2
+  pub nothing_held : s.held ≡ []
+  pub room : n ≤ s.spare
+  pub zone_open : is_open (state_of s) 0 ≡ true
+
+-- the entry was noted, and nothing is held
+pub record WasFull (s : Account) (ticket : ℕ) (t : Account) : Type 0 where
+  pub name : t.name ≡ s.name
+  pub caller : t.caller ≡ s.caller
+  pub profile : t.profile ≡ s.profile
+  pub between : t.between ≡ s.between
+  pub nothing_held : t.held ≡ []
+  pub lights : t.lights ≡ s.lights
+  pub noted : t.noted ≡ s.noted ++ entry_at ticket s.caller large_is_full ∷ []
+  pub spare : t.spare ≡ s.spare - 1
+  pub zones : is_open (state_of t) 0 ≡ is_open (state_of s) 0
+
+-- a book that holds no light, with the class 1 settled for the first block of nano
+pub record MayLight (s : Account) : Type 0 where
+  pub some : 1 ≤ s.profile.nano
+  pub dark : s.lights ≡ []
+  pub settled : class_of s 0 ≡ 1
+
+-- what a pass shows of itself is the same, and it holds what it held
+pub record IsLike (s t : Account) : Type 0 where
+  pub name : t.name ≡ s.name
+  pub profile : t.profile ≡ s.profile
+  pub caller : t.caller ≡ s.caller
+  pub held : t.held ≡ s.held
+  pub lights : t.lights ≡ s.lights
+
+-- and it may take a light again
+pub record WasDark (s t : Account) : Type 0 where
+  pub like : IsLike s t
+  pub settled : t.settled ≡ s.settled
+
+-- the pass is that of caller c at the register, and holds nothing
+abbrev pub SitsAt : {V : Type 0} → Register V → ℕ → Pass V → Type 0
+SitsAt r c x = IsIdleOf r.table.shared.table_id r.opening.profile c (pass_account x)
+
+-- and it has seen nothing yet, and has room for n entries
+pub record IsReady {V : Type 0} (n : ℕ) (r : Register V) (c : ℕ) (x : Pass V) : Type 0 where
+  pub sits : SitsAt r c x
+  pub room : n ≤ (pass_account x).spare
+  pub seen : (pass_account x).seen ≡ []
+
+-- both passes of a register of toys
+pub record AreReady {V : Type 0} (nano n : ℕ) (r : Register V) (x y : Pass V) : Type 0 where
+  pub profile : r.opening.profile ≡ toy_profile nano
+  pub first : IsReady n r 0 x
+  pub second : IsReady n r 1 y

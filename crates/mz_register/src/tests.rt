@@ -1,0 +1,154 @@
+ghost use Rattle.std.specs.Prelude.{◌≡◌, ℕ, ◌<◌, ◌≤◌, true, [], ◌∷◌, length, IfOk};
+ghost use Rattle.mz_book.specs.Plain.{opening_account};
+ghost use Rattle.mz_register.specs.Passes.{IsOf};
+ghost use Rattle.mz_register.specs.Accounts.{pass_account};
+ghost use Rattle.mz_register.specs.Toys.{toy_profile, toy_site, MayBeFull, WasFull, MayLight, IsLike, WasDark, SitsAt, AreReady};
+
+use crate::{Book, Pass, PlainBook, Register, Taken};
+use client::{note_full, settle_first, take_light};
+use mz_events::Entry;
+use std::alloc::{AllocError, Global};
+use std::sync::Wait;
+use std::test::Fail;
+use toy::{Toy, profile, toys};
+
+mod client;
+mod toy;
+
+fn book_of_toys(alloc: Global, nano: u64) -> Result<PlainBook<Toy>, AllocError>
+    requires { nano < 2 }
+    ensures { IfOk result (λ b. ⟦<PlainBook<Toy> as Book<Toy>>⟧.account b ≡ opening_account (toy_profile nano) toy_site) }
+{
+    let p = profile(nano);
+    PlainBook::new(alloc, &p, toys(alloc)?)
+}
+
+// A register of toys, and its two passes, each with room for so many entries.
+fn opened(
+    alloc: Global,
+    nano: u64,
+    room: u64,
+) -> Result<(Register<Toy>, Pass<Toy>, Pass<Toy>), AllocError>
+    requires { nano < 2 }
+    ensures { IfOk result (λ r. AreReady nano room r.0 r.1 r.2) }
+{
+    let Ok((register, mut passes)) = Register::open(alloc, book_of_toys(alloc, nano)?) else {
+        return Err(AllocError);
+    };
+    let Some(mut second) = passes.pop() else {
+        unreachable!()
+    };
+    let Some(mut first) = passes.pop() else {
+        unreachable!()
+    };
+    first.reserve(room)?;
+    second.reserve(room)?;
+    Ok((register, first, second))
+}
+
+fn both(alloc: Global, first: Pass<Toy>, second: Pass<Toy>) -> Result<Vec<Pass<Toy>>, AllocError>
+    ensures { IfOk result (λ v. v.items ≡ first ∷ second ∷ []) }
+{
+    Ok(vec![in alloc; first, second]?)
+}
+
+fn note_at_desk<R: Wait>(rt: &R, register: &Register<Toy>, pass: &mut Pass<Toy>) -> u64
+    requires of { IsOf register.now.table.shared.table_id register.now.opening.profile (pass_account pass.old) }
+    requires can { MayBeFull (pass_account pass.old) 1 }
+    ensures { WasFull (pass_account pass.old) result (pass_account pass.new) }
+{
+    let mut desk = register.desk(pass);
+    note_full(rt, &mut desk)
+}
+
+fn hand_both(
+    alloc: Global,
+    register: Register<Toy>,
+    first: Pass<Toy>,
+    second: Pass<Toy>,
+) -> Result<PlainBook<Toy>, Fail>
+    requires callers { register.opening.profile.callers ≡ 2 }
+    requires first { SitsAt register 0 first }
+    requires second { SitsAt register 1 second }
+{
+    let Ok(book) = register.hand_in(alloc, both(alloc, first, second)?) else {
+        return Err(Fail::from(AllocError));
+    };
+    Ok(book)
+}
+
+fn settle_at_desk(register: &Register<Toy>, pass: &mut Pass<Toy>) -> bool
+    requires of { IsOf register.now.table.shared.table_id register.now.opening.profile (pass_account pass.old) }
+    requires may { (1 ≤ (pass_account pass.old).profile.nano) × ((pass_account pass.old).lights ≡ []) × (length (pass_account pass.old).settled ≡ (pass_account pass.old).profile.nano) }
+    ensures same { IsLike (pass_account pass.old) (pass_account pass.new) }
+    ensures may { result ≡ true → MayLight (pass_account pass.new) }
+{
+    let mut desk = register.desk(pass);
+    settle_first(&mut desk)
+}
+
+fn light_at_desk(register: &Register<Toy>, pass: &mut Pass<Toy>, j: u64) -> bool
+    requires of { IsOf register.now.table.shared.table_id register.now.opening.profile (pass_account pass.old) }
+    requires may { MayLight (pass_account pass.old) }
+    requires slot { j < 1024 }
+    ensures { WasDark (pass_account pass.old) (pass_account pass.new) }
+{
+    let mut desk = register.desk(pass);
+    take_light(&mut desk, j)
+}
+
+fn settle_and_light(register: &Register<Toy>, pass: &mut Pass<Toy>) -> bool
+    requires of { IsOf register.now.table.shared.table_id register.now.opening.profile (pass_account pass.old) }
+    requires nano { 1 ≤ register.now.opening.profile.nano }
+    requires dark { (pass_account pass.old).lights ≡ [] }
+{
+    settle_at_desk(register, pass) && light_at_desk(register, pass, 0)
+}
+
+#[test]
+fn two_keepers(rt: HostRuntime) -> Result<(), Fail> {
+    let (register, mut first, mut second) = opened(rt.alloc(), 1, 0)?;
+    let Ok(held) = register.try_hold(&mut first, 0) else {
+        return Err(Fail::new("keeper 0 wasn't free"));
+    };
+    let Err(taken) = register.try_hold(&mut second, 0) else {
+        return Err(Fail::new("keeper 0 was free"));
+    };
+    let Ok(other) = register.try_hold(&mut second, 1) else {
+        return Err(Fail::new("keeper 1 wasn't free"));
+    };
+    assert_eq!(rt;
+        (held.number, taken, other.number),
+        (0, Taken { word: 1 }, 1)
+    );
+    assert!(rt; settle_and_light(&register, &mut second));
+    Ok(())
+}
+
+// Whether the first entry is of caller 1, and the second and last one of caller 0.
+fn are_both(history: &[Entry]) -> bool {
+    match history {
+        [first, second] => (first.ticket, first.caller, second.ticket, second.caller)
+            == (0, 1, 1, 0),
+        _ => false,
+    }
+}
+
+#[test]
+fn a_client_of_any_book_notes_at_a_desk(rt: HostRuntime) -> Result<(), Fail> {
+    let (register, mut first, mut second) = opened(rt.alloc(), 0, 1)?;
+    assert_eq!(rt; note_at_desk(&rt, &register, &mut second), 0);
+    assert_eq!(rt; note_at_desk(&rt, &register, &mut first), 1);
+    let book = hand_both(rt.alloc(), register, first, second)?;
+    assert!(rt; are_both(book.history()));
+    Ok(())
+}
+
+#[test]
+fn a_client_of_any_book_notes_at_a_plain_book(rt: HostRuntime) -> Result<(), Fail> {
+    let mut book = book_of_toys(rt.alloc(), 0)?;
+    book.reserve(1)?;
+    assert_eq!(rt; note_full(&rt, &mut book), 0);
+    assert_eq!(rt; book.history().len(), 1);
+    Ok(())
+}

@@ -1,0 +1,56 @@
+//! What a client of any book does with one keeper.
+ghost use Rattle.std.specs.Prelude.{◌≡◌, ◌<◌, ◌≤◌, true, [], length};
+ghost use Rattle.mz_register.specs.Toys.{MayBeFull, WasFull, MayLight, IsLike, WasDark};
+
+use super::toy::Toy;
+use mz_book::Book;
+use mz_book::laws::numbers::{held_places, numbers_of_keepers};
+use mz_book::laws::slots::lights_that_are_held;
+use mz_events::laws::events::when_an_event_fits;
+use mz_events::laws::holding::what_an_event_reads;
+use mz_events::{Event, Place};
+use std::sync::Wait;
+
+/// Takes the keeper of large, notes that it has no room for a byte, and gives it back. Answers the ticket.
+pub fn note_full<B: Book<Toy>, R: Wait>(rt: &R, book: &mut B) -> u64
+    requires { MayBeFull (B.account book.old) 1 }
+    ensures { WasFull (B.account book.old) result (B.account book.new) }
+{
+    numbers_of_keepers();
+    held_places();
+    when_an_event_fits();
+    what_an_event_reads();
+    let large = book.hold(rt, 4);
+    let ticket = book.note(Event::Full {
+        k: Place::Large { zone: 0 },
+        n: 1,
+        al: 1,
+    });
+    book.release(4, large);
+    ticket
+}
+
+/// Settles the class 1 for the block 0. Whether it has that now.
+pub fn settle_first<B: Book<Toy>>(book: &mut B) -> bool
+    requires nano { 1 ≤ (B.account book.old).profile.nano }
+    requires dark { (B.account book.old).lights ≡ [] }
+    requires sized { length (B.account book.old).settled ≡ (B.account book.old).profile.nano }
+    ensures same { IsLike (B.account book.old) (B.account book.new) }
+    ensures may { result ≡ true → MayLight (B.account book.new) }
+{
+    book.settle(0, 1).is_ok()
+}
+
+/// Takes the light of an idle slot of the block 0 and gives it back. Whether the slot was idle and its light free.
+pub fn take_light<B: Book<Toy>>(book: &mut B, j: u64) -> bool
+    requires slot { j < 1024 }
+    requires may { MayLight (B.account book.old) }
+    ensures { WasDark (B.account book.old) (B.account book.new) }
+{
+    lights_that_are_held();
+    let Ok(light) = book.hold_light(0, j, 0) else {
+        return false;
+    };
+    book.release_light(light, false);
+    true
+}

@@ -63,7 +63,7 @@ can_hand v p q y z can of_profile of_zone = record {
 }
 
 pub freeable : (v : AtView) (l : LotView) → IsHandedIn v (of_lot l) → IsFreeable v.book l
-freeable v l h = record { in_hand = h.in_hand; zone = h.zone; zone_open = h.zone_open; space = h.space }
+freeable v l h = record { in_hand = h.in_hand; space = h.space }
 
 -- a lot that the rack hands back is a block that the zone does
 abbrev pub back : NotLive → NotLiveBlock

@@ -8,4 +8,3 @@ pub mod Trying
 pub mod Aligned
 pub mod Enough
 pub mod Clearing
-pub mod Moved

@@ -1,5 +1,5 @@
 -- What a call of a zone is made with, what it asks of that, and what each call leaves of it. This project's own.
-use Rattle.std.specs.Prelude.{◌≡◌, ℕ, ◌*◌, ◌<◌, List, [], ◌++◌, Option, None, Some, IsTrue}
+use Rattle.std.specs.Prelude.{◌≡◌, ℕ, ◌*◌, List, [], ◌++◌, Option, None, Some, IsTrue}
 use Rattle.std.specs.Borrow.{Bor, MutBor}
 use Rattle.mz_base.specs.declared.range.TheConstants.{PAGE}
 use Rattle.mz_base.specs.declared.profile.Profile.{Profile}
@@ -78,11 +78,10 @@ abbrev pub HasSlot : Option Seated → ℕ → Option Held → Type 0
 HasSlot nano base None = Unit {0}
 HasSlot nano base (Some h) = IsInSeat nano base h
 
--- The block is handed in: it is in the book's hand, its bytes are of the book's space, and the zone that it says is one of the profile's
--- and open. A slot of nano is in the seat's hand too.
+-- The block is handed in: it is in the book's hand, its bytes are of the book's space, and its zone is open. A slot of nano is in the seat's
+-- hand too.
 pub record IsHandedIn (v : AtView) (b : BlockView) : Type 0 where
   pub in_hand : IsTrue (has_block (hand v.book) (block_of b))
-  pub zone : b.zone < v.book.profile.zones
   pub zone_open : IsTrue (is_open (state_of v.book) b.zone)
   pub space : b.span.space ≡ v.book.site
   pub slot : HasSlot v.nano b.base b.slot

@@ -8,6 +8,3 @@ pub mod Making
 pub mod ZoneLaws
 pub mod Answering
 pub mod Freeing
-pub mod Moving
-pub mod Batches
-pub mod Resizing

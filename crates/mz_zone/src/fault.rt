@@ -37,7 +37,7 @@ impl CallocFault {
     {
         match self {
             CallocFault::Overflow => 3,
-            CallocFault::Null(_) => 1,
+            CallocFault::Null(null) => null.number(),
         }
     }
 }
@@ -58,7 +58,7 @@ impl AlignFault {
     {
         match self {
             AlignFault::BadAlign => 4,
-            AlignFault::Null(_) => 1,
+            AlignFault::Null(null) => null.number(),
         }
     }
 }
@@ -79,7 +79,7 @@ impl ReallocFault {
     {
         match self {
             ReallocFault::NotLive(fault) => fault.number(),
-            ReallocFault::Null { .. } => 1,
+            ReallocFault::Null { null, .. } => null.number(),
         }
     }
 }

@@ -11,7 +11,7 @@ hold_light-requires g c =
 
 pub unreachable-requires : goal.unreachable-requires
 unreachable-requires g c =
-    let un : IsUnlit (g.B.Book.account c.args.book.now) c.block.result c.slot.result 1 _ (g.B.Book.account c.hold_light.new.self) = c.in_default.ensures in
+    let un : IsUnlit (g.B.Book.account c.args.book.now) c.block.result c.slot.result 1 _ (g.B.Book.account c.hold_light.new.self) = c.in_default.ensures.holds in
     none un.idle
   where
     none : ◌≡◌ {A = ℕ} 1 0 → ⊥
@@ -20,14 +20,14 @@ unreachable-requires g c =
 pub note-requires : goal.note-requires
 note-requires g c =
     let s : Account = g.B.Book.account c.args.book.now in
-    let lit : IsLit s c.block.result c.slot.result 1 c.in-Ok.light (g.B.Book.account c.hold_light.new.self) = c.in-Ok.ensures in
+    let lit : IsLit s c.block.result c.slot.result 1 c.in-Ok.light (g.B.Book.account c.hold_light.new.self) = c.in-Ok.ensures.holds in
     may_note_end c.of_zones.ensures s c.args.slot.now c.of_book.ensures c.requires.can c.requires.in_hand
     _ _ _ _ _ _ c.block.ensures c.class.ensures c.slot.ensures (c.first.ensures ∙ sym c.requires.can.placed.first) lit
 
 pub release_light-requires : goal.release_light-requires
 release_light-requires g c =
     let s : Account = g.B.Book.account c.args.book.now in
-    let lit : IsLit s c.block.result c.slot.result 1 c.in-Ok.light (g.B.Book.account c.hold_light.new.self) = c.in-Ok.ensures in
+    let lit : IsLit s c.block.result c.slot.result 1 c.in-Ok.light (g.B.Book.account c.hold_light.new.self) = c.in-Ok.ensures.holds in
     may_unlight_end c.of_zones.ensures s c.args.slot.now c.of_book.ensures c.requires.can c.requires.in_hand
     _ _ _ _ _ _ c.block.ensures c.class.ensures c.slot.ensures (c.first.ensures ∙ sym c.requires.can.placed.first) lit
     _ _ c.note.ensures
@@ -35,7 +35,7 @@ release_light-requires g c =
 pub returns : goal.returns
 returns g c =
     let s : Account = g.B.Book.account c.args.book.now in
-    let lit : IsLit s c.block.result c.slot.result 1 c.in-Ok.light (g.B.Book.account c.hold_light.new.self) = c.in-Ok.ensures in
+    let lit : IsLit s c.block.result c.slot.result 1 c.in-Ok.light (g.B.Book.account c.hold_light.new.self) = c.in-Ok.ensures.holds in
     has_ended c.of_zones.ensures s c.args.slot.now c.of_book.ensures c.requires.can c.requires.in_hand
     _ _ _ _ _ _ c.block.ensures c.class.ensures c.slot.ensures (c.first.ensures ∙ sym c.requires.can.placed.first) lit
     _ _ c.note.ensures _ c.release_light.ensures

@@ -24,7 +24,6 @@ alloc-requires g c =
     record {
       can = can_serve v u c.args.self.now.profile c.args.self.now.rack.profile c.args.self.now.rack.zone c.args.self.now.zone c.requires.can pass.goes
           c.args.self.now.of_profile c.args.self.now.of_zone;
-      small = ?;
       power = c.requires.power;
       range = c.requires.range;
     }

@@ -15,7 +15,6 @@ free-requires g c =
       can = can_hand v c.args.self.now.profile c.args.self.now.rack.profile c.args.self.now.rack.zone c.args.self.now.zone c.requires.can c.args.self.now.of_profile
           c.args.self.now.of_zone;
       lot = freeable v c.in-Lot.lot (subst (IsHandedIn v) b c.requires.block);
-      small = ?;
     }
 
 pub returns-in-Ok-clause-frees : goal.returns-in-Ok-clause-frees

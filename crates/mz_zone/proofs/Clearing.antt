@@ -1,13 +1,13 @@
 -- What a block shows after its first bytes were cleared.
-use Rattle.std.proofs.Common.{◌≡◌, ℕ, zero, suc, ◌+◌, ◌-◌, ◌≤◌, Bool, true, List, [], ◌∷◌, ◌++◌, Option, None, Some, length, take, drop, refl, ap, sym, subst, ◌∙◌, arith, length-append, length-drop}
+use Rattle.std.proofs.Common.{◌≡◌, ℕ, zero, suc, ◌≤◌, true, List, ◌++◌, None, Some, length, take, drop, ap, sym, subst, ◌∙◌, arith, length-append, length-drop}
 use Rattle.std.specs.Prelude.{replicate, Ok}
 use Rattle.std.proofs.lemmas.List.{length-replicate, drop-replicate}
 use Rattle.std.proofs.Math.Seq.{take-append_seam}
-use Rattle.mz_base.specs.Space.{Block, block_at}
+use Rattle.mz_base.specs.Space.{block_at}
 use Rattle.mz_record.specs.Bytes.{Bytes, fresh, cleared, is_shown_as}
 use Rattle.mz_record.specs.Served.{Serves}
 use Rattle.mz_rack.specs.Ways.{request_of}
-use Rattle.mz_zone.specs.Blocks.{BlockView, block_of, at_its_place, with_block_bytes}
+use Rattle.mz_zone.specs.Blocks.{BlockView, at_its_place, with_block_bytes}
 use Rattle.mz_zone.specs.Calling.{AtView}
 use Rattle.mz_zone.specs.Answering.{Answers, IsCleared}
 use Rattle.mz_zone.specs.ZoneLaws.{ZoneLaws}

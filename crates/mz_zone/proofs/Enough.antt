@@ -1,5 +1,5 @@
 -- A block that serves a request has as many bytes as were asked for.
-use Rattle.std.proofs.Common.{◌≡◌, ℕ, ◌+◌, ◌-◌, ◌*◌, ◌/◌, ◌<◌, ◌≤◌, max, Bool, true, false, List, [], ◌∷◌, Option, None, Some, refl, ap, sym, subst, ◌∙◌, arith}
+use Rattle.std.proofs.Common.{◌≡◌, ℕ, ◌-◌, ◌*◌, ◌/◌, ◌≤◌, max, List, None, Some, ap, sym, subst, arith}
 use Rattle.std.specs.Prelude.{nat_le, nat_lt}
 use Rattle.std.proofs.lemmas.Bool.{and_parts}
 use Rattle.std.proofs.lemmas.Bool.Decides.{nat_tests}
@@ -8,7 +8,7 @@ use Rattle.mz_base.specs.declared.range.TheConstants.{PAGE}
 use Rattle.mz_base.specs.declared.range.Range.TheVariants as range
 use Rattle.mz_base.specs.declared.profile.Profile.{Profile}
 use Rattle.mz_base.specs.Sizes.{route_of, unit_of, units_of, good_size_of}
-use Rattle.mz_base.specs.Space.{Block, Run, block_at, page_of}
+use Rattle.mz_base.specs.Space.{Block, Run, block_at}
 use Rattle.mz_events.specs.declared.entry.Entry.{Entry}
 use Rattle.mz_events.specs.Room.{best_fit}
 use Rattle.mz_events.specs.BestFit.{IsBestFit}

@@ -1,6 +1,6 @@
 -- How a block is freed, by the rack or by nano.
-use Rattle.std.proofs.Common.{◌≡◌, ◌≢◌, ℕ, ◌+◌, ◌*◌, ◌<◌, ◌≤◌, Bool, true, false, List, [], ◌∷◌, ◌++◌, Option, None, Some, refl, ap, sym, subst, ◌∙◌, rules, arith, inl, inr}
-use Rattle.std.specs.Prelude.{Result, Ok, Err, IsTrue, map, nat_lt, ◌&&◌, ◌||◌}
+use Rattle.std.proofs.Common.{◌≡◌, ◌≢◌, ℕ, ◌+◌, ◌*◌, ◌<◌, ◌≤◌, true, false, List, [], ◌∷◌, Option, None, Some, refl, ap, sym, subst, ◌∙◌, arith, inl, inr}
+use Rattle.std.specs.Prelude.{Result, Ok, Err, IsTrue, nat_lt, ◌&&◌, ◌||◌}
 use Rattle.std.specs.Borrow.{Bor, MutBor}
 use Rattle.std.proofs.lemmas.Bool.{and_parts, eq-eqb, false≢true}
 use Rattle.std.proofs.lemmas.Bool.Decides.{nat_tests}
@@ -37,7 +37,6 @@ use Rattle.mz_nano.specs.SlotViews.{SlotView, IsPlaced}
 use Rattle.mz_zone.specs.declared.fault.NotLiveBlock.{NotLiveBlock}
 use Rattle.mz_zone.specs.Blocks.{BlockView, of_lot, of_slot}
 use Rattle.mz_zone.specs.Calling.{AtView, Seated, CanCall, IsHandedIn, IsSeatedAt, HasSlot, Goes, seated, with_seat}
-use Rattle.mz_zone.specs.Counts.{counts_of}
 use Rattle.mz_zone.specs.Making.{CanNoteSlot, IsEnded, IsPutBack, ending, held_of}
 use Rattle.mz_zone.specs.Freeing.{Frees}
 use Rattle.mz_zone.specs.ZoneLaws.{ZoneLaws}

@@ -1,5 +1,5 @@
 -- Calls one after another.
-use Rattle.std.proofs.Common.{◌≡◌, ℕ, List, [], ◌++◌, Option, None, Some, refl, ◌∙◌, lit≤}
+use Rattle.std.proofs.Common.{ℕ, List, [], ◌++◌, Option, None, Some, refl, ◌∙◌, lit≤}
 use Rattle.mz_events.specs.declared.entry.Entry.{Entry}
 use Rattle.mz_book.specs.Account.{Account, HoldsNothing}
 use Rattle.mz_book.specs.Growth.{Adds}

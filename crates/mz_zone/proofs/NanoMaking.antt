@@ -1,25 +1,22 @@
 -- How the account goes from step to step where a slot becomes a block, and where a block ends.
-use Rattle.std.proofs.Common.{◌≡◌, ℕ, ◌+◌, ◌*◌, ◌<◌, ◌≤◌, Bool, true, false, List, [], ◌∷◌, ◌++◌, refl, ap, sym, subst, ◌∙◌, rules, arith, lit≤, get_or}
-use Rattle.std.specs.Prelude.{slice_set, ◌||◌, not, ◌&&◌, IsTrue, length}
+use Rattle.std.proofs.Common.{◌≡◌, ℕ, ◌+◌, ◌*◌, ◌<◌, ◌≤◌, true, false, List, [], ◌∷◌, refl, ap, sym, subst, ◌∙◌, rules, arith, lit≤}
+use Rattle.std.specs.Prelude.{slice_set, ◌||◌, not, ◌&&◌, IsTrue}
 use Rattle.std.proofs.lemmas.Bool.Decides.{nat_tests}
 use Rattle.std.proofs.lemmas.List.{get_or-set_same}
 use Rattle.mz_base.specs.Lists.{has_block}
 use Rattle.mz_base.specs.Space.{block_at, page_of}
 use Rattle.mz_events.specs.declared.event.Event.{Event}
-use Rattle.mz_events.specs.declared.entry.Entry.{Entry}
 use Rattle.mz_events.specs.Holding.{changes_zones}
 use Rattle.mz_base.specs.declared.range.TheConstants.{PAGE}
 use Rattle.mz_events.specs.Places.{nano_start}
 use Rattle.mz_events.specs.declared.event.Event.TheVariants.{New, End}
 use Rattle.mz_events.specs.declared.place.Place.TheVariants.{Nano}
 use Rattle.mz_nano.specs.SlotViews.{SlotView}
-use Rattle.mz_nano.specs.Rule.{slots}
 use Rattle.mz_book.specs.declared.light.Light.{Light}
 use Rattle.mz_book.specs.Lights.{light_at, same_light, has_light, add_light, drop_light, slots_of, slot_number, page_of_block}
 use Rattle.mz_book.specs.Account.{Account, IsOrderly, class_of, hand, owns_slot, holds_light, entry_at}
 use Rattle.mz_book.specs.Calls.{CanHoldLight, CanMakeSlot, CanEndSlot, CanNote, CanReleaseLight, Notes, IsSettled, IsLit, ReleasesLight}
 use Rattle.mz_book.specs.Growth.{Adds}
-use Rattle.mz_zone.specs.Calling.{apart_from_nano}
 use Rattle.mz_zone.specs.Making.{CanNoteSlot, IsNoted, IsMade, IsEnded, CanBeOfClass, making, ending}
 use Rattle.mz_zone.specs.ZoneLaws.{ZoneLaws}
 use Rattle.mz_zone.proofs.SlotArithmetic.{slots_alike, slot_begins, slot_page, slot_is, slot_aligned}

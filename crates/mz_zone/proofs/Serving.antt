@@ -1,34 +1,31 @@
 -- How a request is answered, by nano or by the rack.
-use Rattle.std.proofs.Common.{◌≡◌, ℕ, ◌+◌, ◌-◌, ◌*◌, ◌<◌, ◌≤◌, Bool, true, false, List, [], ◌∷◌, ◌++◌, Option, None, Some, refl, ap, sym, subst, ◌∙◌, rules, arith, mul_comm}
-use Rattle.std.specs.Prelude.{Result, Ok, Err, nat_le, ◌&&◌, ◌==◌, ◌||◌, not, IsTrue, map}
+use Rattle.std.proofs.Common.{◌≡◌, ℕ, ◌-◌, ◌*◌, ◌<◌, ◌≤◌, Bool, true, false, List, [], ◌∷◌, Option, None, Some, refl, ap, sym, subst, ◌∙◌, arith, mul_comm}
+use Rattle.std.specs.Prelude.{Result, Ok, Err, nat_le, ◌&&◌, ◌==◌, not, IsTrue}
 use Rattle.std.specs.List.{list_any, list_all}
 use Rattle.std.proofs.lemmas.Bool.{and_parts, false≢true}
 use Rattle.std.proofs.lemmas.Bool.Decides.{nat_tests}
-use Rattle.mz_base.specs.declared.range.Range.{Range}
-use Rattle.mz_base.specs.declared.range.Range.TheVariants as range
 use Rattle.mz_base.specs.declared.profile.Profile.{Profile}
 use Rattle.mz_base.specs.Space.{Block, block_at}
-use Rattle.mz_base.specs.Sizes.{route_of, unit_of, units_of, good_size_of}
+use Rattle.mz_base.specs.Sizes.{unit_of, units_of, good_size_of}
 use Rattle.mz_events.specs.declared.event.Event.{Event}
 use Rattle.mz_events.specs.declared.event.Event.TheVariants.{New}
-use Rattle.mz_events.specs.declared.place.Place.{Place}
 use Rattle.mz_events.specs.declared.place.Place.TheVariants.{Nano}
 use Rattle.mz_events.specs.Places.{is_nano}
 use Rattle.mz_events.specs.declared.entry.Entry.{Entry}
 use Rattle.mz_record.specs.Served.{Serves, by_nano, events, is_dry}
 use Rattle.mz_events.specs.State.{is_open}
-use Rattle.mz_book.specs.Account.{Account, HoldsNothing, entry_at, state_of}
+use Rattle.mz_book.specs.Account.{Account, HoldsNothing, state_of}
 use Rattle.mz_book.specs.Calls.{is_at_nano}
-use Rattle.mz_book.specs.Growth.{Adds, Grows}
+use Rattle.mz_book.specs.Growth.{Grows}
 use Rattle.mz_rack.specs.declared.lot.Null.{Null}
 use Rattle.mz_rack.specs.Lots.{LotView}
 use Rattle.mz_rack.specs.Serving.{Answers as Racked, CanServe}
 use Rattle.mz_rack.specs.Ways.{request_of}
 use Rattle.mz_nano.specs.SlotViews.{SlotView, IsPlaced}
 use Rattle.mz_zone.specs.Blocks.{BlockView, of_lot, of_slot}
-use Rattle.mz_zone.specs.Calling.{AtView, Seated, CanCall, IsSeatedAt, Goes, StaysSeated, apart_from_nano, hand_at}
-use Rattle.mz_zone.specs.Counts.{Counts, Tried, Tries, TriesIf, has_nano, is_for_nano, counts_of, counts_in}
-use Rattle.mz_zone.specs.Making.{Takes, TakesFor, TakesIf, Makes, making, held_of}
+use Rattle.mz_zone.specs.Calling.{AtView, Seated, CanCall, IsSeatedAt, Goes, hand_at}
+use Rattle.mz_zone.specs.Counts.{Tries, TriesIf, has_nano, is_for_nano, counts_of, counts_in}
+use Rattle.mz_zone.specs.Making.{Takes, TakesFor, TakesIf, held_of}
 use Rattle.mz_zone.specs.Answering.{Answers, makes_slot}
 use Rattle.mz_zone.specs.ZoneLaws.{ZoneLaws}
 use Rattle.mz_zone.proofs.Trying.{route_small}

@@ -1,12 +1,12 @@
 -- Where the slots of nano lie, in numbers.
-use Rattle.std.proofs.Common.{◌≡◌, ℕ, ◌+◌, ◌-◌, ◌*◌, ◌/◌, ◌%◌, ◌<◌, ◌≤◌, arith, refl, ap, sym, subst, ◌∙◌, mul_comm, lit<}
+use Rattle.std.proofs.Common.{◌≡◌, ℕ, ◌+◌, ◌-◌, ◌*◌, ◌/◌, ◌%◌, ◌<◌, ◌≤◌, arith, ap, sym, subst, ◌∙◌, mul_comm, lit<}
 use Rattle.std.proofs.Math.Nat.{mul-div-mul_left, mul-div-le}
 use Rattle.std.proofs.lemmas.Nat.{div-mul-add, mod-mul-add, mul-add-lt}
 use Rattle.mz_base.specs.declared.range.TheConstants.{PAGE}
 use Rattle.mz_base.specs.declared.profile.Profile.{Profile}
 use Rattle.mz_base.specs.Space.{block_at, page_of}
 use Rattle.mz_events.specs.Places.{nano_start}
-use Rattle.mz_book.specs.Lights.{slot_size, slots_of, slot_address, slot_number, page_of_block}
+use Rattle.mz_book.specs.Lights.{slots_of, slot_address, slot_number, page_of_block}
 use Rattle.mz_nano.specs.Rule.{slots}
 
 -- both crates count the slots of a class alike

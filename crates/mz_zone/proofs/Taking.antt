@@ -1,11 +1,10 @@
 -- What a try of nano leaves: a pop that missed, a slot that became a block, and one that couldn't and was pushed back.
-use Rattle.std.proofs.Common.{◌≡◌, ◌⊎◌, ℕ, ◌+◌, ◌*◌, ◌<◌, ◌≤◌, Bool, true, false, List, [], ◌∷◌, Option, None, Some, length, refl, ap, sym, subst, ◌∙◌, rules, arith, inl, inr, cond}
-use Rattle.std.specs.Prelude.{◌==◌, ◌&&◌, slice_set}
+use Rattle.std.proofs.Common.{◌≡◌, ◌⊎◌, ℕ, ◌+◌, ◌*◌, ◌<◌, ◌≤◌, Bool, true, false, List, [], ◌∷◌, Option, None, Some, refl, ap, sym, subst, ◌∙◌, arith, inl, inr}
+use Rattle.std.specs.Prelude.{◌==◌, slice_set}
 use Rattle.std.proofs.lemmas.Bool.{and_parts, eqb-true}
 use Rattle.std.proofs.lemmas.Bool.Decides.{nat_tests}
-use Rattle.mz_events.specs.declared.entry.Entry.{Entry}
 use Rattle.mz_book.specs.declared.light.Asked.{Asked}
-use Rattle.mz_book.specs.declared.light.Asked.TheVariants.{Settle, HoldLight}
+use Rattle.mz_book.specs.declared.light.Asked.TheVariants.{Settle}
 use Rattle.mz_book.specs.Account.{Account, HoldsNothing, entry_at}
 use Rattle.mz_book.specs.Growth.{Adds}
 use Rattle.mz_nano.specs.declared.nano.Nano.{Nano}
@@ -19,8 +18,8 @@ use Rattle.mz_nano.specs.Lists.{In, without, is_at}
 use Rattle.mz_nano.specs.Rule.{held, slots}
 use Rattle.mz_nano.specs.SeatLists.{SitsAt, hand_of, space_of, first_of}
 use Rattle.mz_nano.specs.SlotViews.{SlotView, IsPlaced}
-use Rattle.mz_zone.specs.Calling.{AtView, Seated, CanCall, Goes, apart_from_nano, with_seat, hand_at}
-use Rattle.mz_zone.specs.Counts.{Counts, Tried, by_pop, by_miss, by_class, by_word, counts_of, with_pop, with_miss, with_class, with_found}
+use Rattle.mz_zone.specs.Calling.{CanCall, apart_from_nano, with_seat}
+use Rattle.mz_zone.specs.Counts.{Counts, by_pop, by_miss, by_class, by_word}
 use Rattle.mz_zone.specs.Making.{CanNoteSlot, CanBeOfClass, IsMade, IsOfAnotherClass, IsNotIdle, IsPutBack, Takes, held_of, making}
 use Rattle.mz_zone.specs.ZoneLaws.{ZoneLaws}
 use Rattle.mz_zone.proofs.Going.{adds_apart}

@@ -1,16 +1,16 @@
 -- What is asked of a try of nano.
-use Rattle.std.proofs.Common.{◌≡◌, ℕ, ◌+◌, ◌-◌, ◌/◌, ◌≤◌, Bool, true, Option, Some, ap, sym, subst, ◌∙◌, arith}
+use Rattle.std.proofs.Common.{◌≡◌, ℕ, ◌≤◌, true, Option, Some, subst, arith}
 use Rattle.std.specs.Prelude.{nat_le, max}
 use Rattle.std.specs.Borrow.{Bor, MutBor}
 use Rattle.std.proofs.lemmas.Bool.Decides.{nat_tests}
 use Rattle.mz_base.specs.declared.range.Range.TheVariants as range
 use Rattle.mz_base.specs.Space.{units_for}
-use Rattle.mz_base.specs.Sizes.{route_of, unit_of, units_of}
+use Rattle.mz_base.specs.Sizes.{route_of, units_of}
 use Rattle.mz_book.specs.Account.{Account}
 use Rattle.mz_rack.specs.Serving.{CanServe}
 use Rattle.mz_nano.specs.declared.nano.Nano.{Nano}
 use Rattle.mz_nano.specs.declared.seat.NanoSeat.{NanoSeat}
-use Rattle.mz_zone.specs.Calling.{AtView, CanCall, IsSeatedAt, seated, with_seat}
+use Rattle.mz_zone.specs.Calling.{CanCall, IsSeatedAt, seated, with_seat}
 
 -- a request of at most 256 bytes is tiny
 pub route_small : (n : ℕ) → n ≤ 256 → route_of n ≡ range.Tiny

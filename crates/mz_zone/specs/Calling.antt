@@ -1,5 +1,5 @@
 -- What a call of a zone is made with, what it asks of that, and what each call leaves of it. This project's own.
-use Rattle.std.specs.Prelude.{◌≡◌, ℕ, ◌*◌, List, [], ◌++◌, Option, None, Some, IsTrue}
+use Rattle.std.specs.Prelude.{◌≡◌, ℕ, ◌*◌, List, [], Option, None, Some, IsTrue}
 use Rattle.std.specs.Borrow.{Bor, MutBor}
 use Rattle.mz_base.specs.declared.range.TheConstants.{PAGE}
 use Rattle.mz_base.specs.declared.profile.Profile.{Profile}

@@ -1,6 +1,5 @@
 -- What a block is made of, as contracts see it. This project's own.
-use Rattle.mz_rack.specs.Lots.{LotView}
-use Rattle.mz_nano.specs.SlotViews.{SlotView, IsPlaced}
+use Rattle.mz_nano.specs.SlotViews.{IsPlaced}
 use Rattle.mz_zone.specs.declared.block.Inner.{Inner}
 use Rattle.mz_zone.specs.declared.block.Inner.TheVariants.{Lot, Slot}
 use Rattle.mz_zone.specs.Blocks.{BlockView, of_lot, of_slot}

@@ -1,8 +1,6 @@
 -- What the steps of a call at nano need of a book, and what they leave of its account. This project's own.
 use Rattle.std.specs.Prelude.{◌≡◌, ◌⊎◌, ℕ, ◌*◌, ◌<◌, ◌≤◌, Bool, true, false, List, [], ◌∷◌, Option, None, Some, slice_set, IsTrue}
 use Rattle.mz_base.specs.declared.range.TheConstants.{PAGE}
-use Rattle.mz_base.specs.Lists.{has_block}
-use Rattle.mz_base.specs.Space.{block_at}
 use Rattle.mz_events.specs.declared.event.Event.{Event}
 use Rattle.mz_events.specs.declared.event.Event.TheVariants.{New, End}
 use Rattle.mz_events.specs.declared.place.Place.TheVariants as place
@@ -10,7 +8,7 @@ use Rattle.mz_events.specs.declared.entry.Entry.{Entry}
 use Rattle.mz_events.specs.Places.{nano_start}
 use Rattle.mz_events.specs.State.{is_open}
 use Rattle.mz_book.specs.declared.light.Asked.TheVariants.{Settle, HoldLight}
-use Rattle.mz_book.specs.Account.{Account, HoldsNothing, class_of, entry_at, hand, one_more, state_of}
+use Rattle.mz_book.specs.Account.{Account, HoldsNothing, class_of, entry_at, one_more, state_of}
 use Rattle.mz_book.specs.Growth.{Adds}
 use Rattle.mz_base.specs.Sizes.{units_of}
 use Rattle.mz_nano.specs.declared.nano.Nano.{Nano}

@@ -1,5 +1,5 @@
 -- The laws on which the calls of a zone rest, together.
-use Rattle.std.specs.Prelude.{◌≡◌, ℕ, ◌+◌, ◌<◌, ◌≤◌, true, false, Bool, not, ◌&&◌, ◌||◌, List, [], ◌∷◌, ◌++◌, length, take, Option, Some, slice_get, IsTrue, Contains, ◌↔◌}
+use Rattle.std.specs.Prelude.{◌≡◌, ℕ, ◌+◌, ◌<◌, ◌≤◌, true, false, not, ◌&&◌, ◌||◌, List, [], ◌∷◌, ◌++◌, length, Option, Some, slice_get, IsTrue, Contains, ◌↔◌}
 use Rattle.std.specs.List.{list_all}
 use Rattle.mz_base.specs.declared.profile.Profile.{Profile}
 use Rattle.mz_base.specs.Space.{Block, Run, block_at, page_of}
@@ -19,10 +19,10 @@ use Rattle.mz_events.specs.declared.place.Place.TheVariants.{Nano}
 use Rattle.mz_events.specs.Places.{Spot}
 use Rattle.mz_events.specs.State.{State, opening, value_at}
 use Rattle.mz_events.specs.Effect.{touches, after, value_after}
-use Rattle.mz_events.specs.History.{AreLawful, after_all}
+use Rattle.mz_events.specs.History.{AreLawful}
 use Rattle.mz_events.specs.Holding.{changes_zones}
-use Rattle.mz_record.specs.Bytes.{Bytes, fresh, kept_in_place, kept_in_move, is_shown_as}
-use Rattle.mz_record.specs.Moments.{state_before, state_at}
+use Rattle.mz_record.specs.Bytes.{Bytes, fresh, kept_in_place, is_shown_as}
+use Rattle.mz_record.specs.Moments.{state_at}
 use Rattle.mz_record.specs.Served.{Request, IsServed, Serves, IsUndisturbed, is_dry}
 use Rattle.mz_record.specs.Dropped.{IsDropped}
 use Rattle.mz_book.specs.declared.light.Light.{Light}

@@ -1,4 +1,3 @@
-use Rattle.std.proofs.Common.{inl, inr}
 use Rattle.mz_zone.proofs.Taking.{HasPopped, can_note_slot, can_put_back, taken, refused, missed_so}
 use Rattle.mz_zone.proofs.nano.take_block.Goals as goal
 

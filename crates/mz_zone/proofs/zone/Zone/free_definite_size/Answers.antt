@@ -1,4 +1,4 @@
-use Rattle.std.proofs.Common.{◌≡◌, true, false, sym, ◌∙◌}
+use Rattle.std.proofs.Common.{sym, ◌∙◌}
 use Rattle.std.proofs.lemmas.Bool.{false≢true}
 use Rattle.mz_zone.specs.Freeing.{IsWrongSize}
 use Rattle.mz_zone.proofs.zone.Zone.free_definite_size.Goals.{else-zone-self-via-then-zone-self+else-is_wrong_size, else-zone-self-via-else-zone-self}

@@ -1,6 +1,5 @@
-use Rattle.std.proofs.Common.{◌≡◌, ℕ, ◌*◌, ◌<◌, ap, sym, subst, ◌∙◌}
+use Rattle.std.proofs.Common.{◌*◌, ◌<◌, sym, subst, ◌∙◌}
 use Rattle.mz_base.specs.declared.profile.Profile.{Profile}
-use Rattle.mz_events.specs.declared.event.Event.{Event}
 use Rattle.mz_events.specs.declared.event.Event.TheVariants.{No}
 use Rattle.mz_events.specs.declared.place.Place.TheVariants as place
 use Rattle.mz_book.specs.Account.{Account}

@@ -1,4 +1,4 @@
-use Rattle.std.proofs.Common.{◌≡◌, ◌≤◌, None, Ok, Err, ap, sym, subst}
+use Rattle.std.proofs.Common.{Ok, Err, subst}
 use Rattle.mz_rack.specs.Serving.{Answers as Racked}
 use Rattle.mz_zone.specs.Calling.{AtView, seen}
 use Rattle.mz_zone.specs.Answering.{Answers}

@@ -1,6 +1,6 @@
-use Rattle.std.proofs.Common.{◌≡◌, ◌≤◌, Ok, Err, length, subst, sym}
+use Rattle.std.proofs.Common.{◌≡◌, Ok, Err, subst}
 use Rattle.mz_rack.specs.Freeing.{Frees as Racked}
-use Rattle.mz_zone.specs.Blocks.{BlockView, of_lot, of_slot}
+use Rattle.mz_zone.specs.Blocks.{of_lot, of_slot}
 use Rattle.mz_zone.specs.Inners.{IsSound}
 use Rattle.mz_zone.specs.Calling.{AtView, IsHandedIn, seen}
 use Rattle.mz_zone.proofs.Freed.{of_its_lot, of_its_slot, can_hand, freeable, by_rack}

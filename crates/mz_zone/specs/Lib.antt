@@ -1,0 +1,10 @@
+pub mod Profiles
+pub mod Blocks
+pub mod Inners
+pub mod Numbers
+pub mod Calling
+pub mod Counts
+pub mod Making
+pub mod ZoneLaws
+pub mod Answering
+pub mod Freeing

@@ -47,7 +47,7 @@ use Rattle.mz_desk.specs.Rule.{all_of, state_after, AtHome, LeavesAlone, IsAlone
 use Rattle.mz_desk.specs.Needs.{Seated, CanDraw}
 use Rattle.mz_desk.specs.Steps.{Draws}
 use Rattle.mz_desk.proofs.ListLemmas.{or_either, set_there, at_length, some_below}
-use Rattle.mz_desk.proofs.Frames.{other_word, lock_owner, taken_stays}
+use Rattle.mz_desk.proofs.Frames.{settled_stay, known_stay, other_word, lock_owner, taken_stays}
 use Rattle.mz_desk.proofs.Knowing.{owners_append, owners_part, owners_set, history_few, knows_all}
 use Rattle.mz_desk.proofs.PairLemmas.{NoneOf, none_by_seat, hand_tail, after_tail, others_after, callers_after}
 
@@ -397,6 +397,7 @@ module _ {V : Type 0} (keeping : V → Keeping) (key : Opened) (L : DeskLaws) (i
     lights = λ b j h. let o = f.lights b j h in (o.0, o.1, light_same b j ∙ o.2);
     sized = f.sized;
     settled = λ b d. class_same b ∙ f.settled b d;
+    known = known_stay p s.words words' v.joined (λ b l d. class_same b) f.known;
   }
 
   module _ (i : ℕ) (ne : i ≢ id) (u : View) (g : SeatKeeps keeping key later s.words s.homes i u) where
@@ -434,6 +435,7 @@ module _ {V : Type 0} (keeping : V → Keeping) (key : Opened) (L : DeskLaws) (i
       lights = λ b j h. let o = g.lights b j h in (o.0, o.1, light_same b j ∙ o.2);
       sized = g.sized;
       settled = λ b d. class_same b ∙ g.settled b d;
+      known = known_stay p s.words words' u.joined (λ b l d. class_same b) g.known;
     }
 
   taken_more : (x : TakenIn) → IsTaken key s.views later x → IsTaken key (set s.views id w) later' x
@@ -536,10 +538,11 @@ module _ {V : Type 0} (keeping : V → Keeping) (key : Opened) (L : DeskLaws) (i
         (kept.lights.each b j lb lj);
   }
 
-  drawn_classes : ClassesKeep p st' words'
+  drawn_classes : ClassesKeep key st' words'
   drawn_classes = record {
     most = λ b l. let a = class_same b in let c = kept.classes.most b l in omega arith;
     of_class = λ b x l h. noted.of_class b x l (sym (ap (λ (t : State). has_block (kept_at t (nano_page (page_of_block p b))).live x) then_is) ∙ h) ∙ ap slot_size (class_is b l ∙ sym (class_same b));
+    stays = settled_stay p s.words words' key.classes (λ b l d. class_same b) kept.classes.stays;
   }
 
   pub drawn_kept : Kept keeping key record { words = words'; homes = s.homes; views = set s.views id w } later'

@@ -20,7 +20,7 @@ use Rattle.mz_desk.specs.declared.view.TakenIn.{TakenIn}
 use Rattle.mz_desk.specs.declared.view.View.{View}
 use Rattle.mz_desk.specs.Words.{lock_word, light_word}
 use Rattle.mz_desk.specs.Views.{Opened, has_lock, all_pairs}
-use Rattle.mz_desk.specs.Ending.{TookAll, IsPartOf, Ended}
+use Rattle.mz_desk.specs.Ending.{TookAll, Ended}
 use Rattle.mz_desk.specs.Rule.{state_after, AtHome, SeatKeeps, LockOwner, LightOwner, IsSpent, IsTaken, Kept}
 use Rattle.mz_desk.proofs.ListLemmas.{at_length, or_either}
 
@@ -98,8 +98,8 @@ module _ {V : Type 0} (keeping : V → Keeping) (key : Opened) (s : table.State 
     lawful = kept.history.lawful;
     below = All-weaker (λ (e : Entry). e.caller < length s.views) (λ (e : Entry). e.caller < key.profile.callers) (λ e l. let few = kept.few in omega arith) later kept.history.below;
     handed = kept.history.handed;
-    mine = record { rest = f.rest; seen = f.seen; noted = f.noted ∙ ap (λ (c : ℕ). Rattle.mz_events.specs.Hands.own c later) (sym f.caller); hand = subst (λ (c : ℕ). hand_among c v.pairs ≡ Rattle.mz_events.specs.Hands.hand_through (hand_among c key.pairs) v.noted) (sym f.caller) f.hand };
-    others = All-weaker (IsTaken key s.views later) (IsPartOf key later) (λ x t. record { rest = t.rest; seen = t.seen; noted = t.noted; hand = t.hand }) v.joined (kept.hands.taken id v at all.live);
+    mine = record { rest = f.rest; seen = f.seen; noted = f.noted ∙ ap (λ (c : ℕ). Rattle.mz_events.specs.Hands.own c later) (sym f.caller); hand = subst (λ (c : ℕ). hand_among c v.pairs ≡ Rattle.mz_events.specs.Hands.hand_through (hand_among c key.pairs) v.noted) (sym f.caller) f.hand; settled = λ b l n. f.settled b n };
+    others = λ k d l. let t = kept.hands.taken id v at all.live k d l in record { rest = t.rest; seen = t.seen; noted = t.noted; hand = t.hand; settled = f.known k d l };
     whose = All-weaker (IsTaken key s.views later) (λ (x : TakenIn). All (λ (h : Pair). h.caller ≡ x.caller) x.pairs) (λ x t. t.whose) v.joined (kept.hands.taken id v at all.live);
     in_one_hand = λ b. ap (λ ps. owners ps b) (sym pairs) ∙ kept.hands.in_one_hand b;
     home = home;

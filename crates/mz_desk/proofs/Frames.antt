@@ -23,8 +23,16 @@ use Rattle.mz_desk.specs.declared.view.TakenIn.{TakenIn}
 use Rattle.mz_desk.specs.declared.view.View.{View}
 use Rattle.mz_desk.specs.Words.{lock_word, class_word, light_word, lock_place, class_place, slot_place}
 use Rattle.mz_desk.specs.Views.{Opened, has_lock, all_pairs}
-use Rattle.mz_desk.specs.Rule.{state_after, Homes, AtHome, SeatKeeps, LockOwner, LightOwner, IsSpent, IsTaken, LocksKeep, HandsKeep, LightsKeep, ClassesKeep, Kept}
+use Rattle.mz_desk.specs.Rule.{state_after, AreSettled, Homes, AtHome, SeatKeeps, LockOwner, LightOwner, IsSpent, IsTaken, LocksKeep, HandsKeep, LightsKeep, ClassesKeep, Kept}
 use Rattle.mz_desk.proofs.ListLemmas.{set_there, some_below}
+
+-- classes that are the words stay so, where no class that a block has changes
+
+pub settled_stay : (p : Profile) (words words' classes : List ℕ) → ((b : ℕ) → b < p.nano → class_word p words b ≢ 0 → class_word p words' b ≡ class_word p words b) → AreSettled p words classes → AreSettled p words' classes
+settled_stay p words words' classes same h b l n = let e = h b l n in same b l (λ z. n (sym e ∙ z)) ∙ e
+
+pub known_stay : (p : Profile) (words words' : List ℕ) (xs : List TakenIn) → ((b : ℕ) → b < p.nano → class_word p words b ≢ 0 → class_word p words' b ≡ class_word p words b) → All (λ x. AreSettled p words x.settled) xs → All (λ x. AreSettled p words' x.settled) xs
+known_stay p words words' xs same h = All-weaker (λ (x : TakenIn). AreSettled p words x.settled) (λ (x : TakenIn). AreSettled p words' x.settled) (λ x k. settled_stay p words words' x.settled same k) xs h
 
 -- what a seat may count on where another steps
 pub record Rely {V : Type 0} (keeping : V → Keeping) (key : Opened) (st : State) (words words' : List ℕ) (homes homes' : Homes V) (i : ℕ) : Type 0 where
@@ -58,6 +66,7 @@ module _ {V : Type 0} (keeping : V → Keeping) (key : Opened) (later : List Ent
         let e = f.settled b n in
         let l : b < key.profile.nano = subst (λ x. b < x) f.sized (some_below v.settled b n) in
         r.class b l (λ z. n (sym e ∙ z)) ∙ e;
+    known = known_stay key.profile words words' v.joined r.class f.known;
   }
 
   -- a keeper at home is where it was, where another place changes
@@ -147,7 +156,7 @@ pub moves : {V : Type 0} (keeping : V → Keeping) (key : Opened) (s : table.Sta
     → ((i : ℕ) → i ≢ id → Rely keeping key (state_after key later) s.words words' s.homes homes' i)
     → LocksKeep keeping key (state_after key later) words' homes' (set s.views id w)
     → LightsKeep key.profile (state_after key later) words' (set s.views id w)
-    → ClassesKeep key.profile (state_after key later) words'
+    → ClassesKeep key (state_after key later) words'
     → Kept keeping key record { words = words'; homes = homes'; views = set s.views id w } later
 moves keeping key s later id v w words' homes' kept at live same lw lh counter mine others locks lights classes =
     let n : length (set s.views id w) ≡ length s.views = length-set s.views id w in
@@ -191,10 +200,11 @@ lights_same p st words words' views id v w same at live lights pairs l = record 
       (l.each b j lb lj);
 }
 
-pub classes_same : (p : Profile) (st : State) (words words' : List ℕ) → ((b : ℕ) → b < p.nano → class_word p words' b ≡ class_word p words b) → ClassesKeep p st words → ClassesKeep p st words'
-classes_same p st words words' same c = record {
+pub classes_same : (key : Opened) (st : State) (words words' : List ℕ) → ((b : ℕ) → b < key.profile.nano → class_word key.profile words' b ≡ class_word key.profile words b) → ClassesKeep key st words → ClassesKeep key st words'
+classes_same key st words words' same c = record {
   most = λ b l. let e = same b l in let m = c.most b l in omega arith;
   of_class = λ b x l h. c.of_class b x l h ∙ ap slot_size (sym (same b l));
+  stays = settled_stay key.profile words words' key.classes (λ b l n. same b l) c.stays;
 }
 
 pub locks_same : {V : Type 0} (keeping : V → Keeping) (key : Opened) (st : State) (words words' : List ℕ) (homes : Homes V) (views : List View) (id : ℕ) (v w : View) → ((k : ℕ) → k < keeper_count key.profile → lock_word words' k ≡ lock_word words k) → get_elem? views id ≡ m.some v → w.live ≡ true

@@ -31,7 +31,7 @@ use Rattle.mz_desk.specs.Rule.{all_of, state_after, Homes, LeavesAlone, IsAloneS
 use Rattle.mz_desk.specs.Needs.{Seated, CanLock, CanLook, CanFree}
 use Rattle.mz_desk.specs.Steps.{TriesLock, Looks, Frees}
 use Rattle.mz_desk.proofs.ListLemmas.{or_either, or_left, or_right, among_append, among_one, one_among, without_less, without_more, set_there, at_length}
-use Rattle.mz_desk.proofs.Frames.{moves, lock_owner, lights_same, classes_same, other_word, locks_same, rely_same, home_else, light_not_lock, class_not_lock}
+use Rattle.mz_desk.proofs.Frames.{known_stay, moves, lock_owner, lights_same, classes_same, other_word, locks_same, rely_same, home_else, light_not_lock, class_not_lock}
 use Rattle.mz_desk.proofs.Knowing.{owners_part, knows_all, away_less, held_less, since_less, timed_less}
 
 -- a seat that only notes a clash
@@ -44,7 +44,7 @@ module _ {V : Type 0} (keeping : V → Keeping) (key : Opened) (id : ℕ) (me : 
       let w = clashed me.0 i x n in
       subst (λ (ws : List ℕ). Kept keeping key record { words = ws; homes = s.homes; views = set s.views id w } later) (sym (set-get_or s.words i 0))
       (moves keeping key s later id v w s.words s.homes kept at live (refl, refl, refl, live) refl refl refl
-      record { profile = f.profile; space = f.space; start = f.start; dealt = f.dealt; caller = f.caller; rest = f.rest; seen = f.seen; away = f.away; noted = f.noted; held = f.held; taking = f.taking; since = All-weaker (IsAloneSince key.profile id (all_of key later) v) (IsAloneSince key.profile id (all_of key later) w) (λ y a. record { there = a.there; within = a.within; alone = a.alone }) v.since f.since; timed = f.timed; owned = f.owned; whose = f.whose; hand = f.hand; lights = f.lights; sized = f.sized; settled = f.settled }
+      record { profile = f.profile; space = f.space; start = f.start; dealt = f.dealt; caller = f.caller; rest = f.rest; seen = f.seen; away = f.away; noted = f.noted; held = f.held; taking = f.taking; since = All-weaker (IsAloneSince key.profile id (all_of key later) v) (IsAloneSince key.profile id (all_of key later) w) (λ y a. record { there = a.there; within = a.within; alone = a.alone }) v.since f.since; timed = f.timed; owned = f.owned; whose = f.whose; hand = f.hand; lights = f.lights; sized = f.sized; settled = f.settled; known = f.known }
       (λ j ne. rely_same keeping key (state_after key later) s.words s.homes j)
       (locks_same keeping key (state_after key later) s.words s.words s.homes s.views id v w (λ k l. refl) at live refl refl kept.locks)
       (lights_same key.profile (state_after key later) s.words s.words s.views id v w (λ b j l k. refl) at live refl refl kept.lights)
@@ -96,6 +96,7 @@ module _ {V : Type 0} (keeping : V → Keeping) (key : Opened) (id : ℕ) (me : 
         lights = λ b j y. let o = f.lights b j y in (o.0, o.1, dark b j ∙ o.2);
         sized = f.sized;
         settled = λ b n. class b ∙ f.settled b n;
+        known = known_stay p s.words words' v.joined (λ b l n. class b) f.known;
       }
       (λ i ne. record { lock = λ j l e. else_ j (apart i j e) ∙ e; home = λ j l e a. a; light = λ b j lb lj e. dark b j ∙ e; class = λ b l n. class b })
       record {
@@ -109,7 +110,7 @@ module _ {V : Type 0} (keeping : V → Keeping) (key : Opened) (id : ℕ) (me : 
             (cases_eq j k);
       }
       (lights_same p (state_after key later) s.words words' s.views id v w (λ b j lb lj. dark b j) at live refl refl kept.lights)
-      (classes_same p (state_after key later) s.words words' (λ b l. class b) kept.classes)
+      (classes_same key (state_after key later) s.words words' (λ b l. class b) kept.classes)
 
   locks_miss : (k : ℕ) → CanLock me.0 k → (s : table.State (Option V) View) (later : List Entry) → Kept keeping key s later → get_elem? s.views id ≡ m.some me.0 → lock_word s.words k ≢ 0 → lock_word s.words k ≢ me.0.caller + 1
   locks_miss k can s later kept at some' e =
@@ -190,6 +191,7 @@ module _ {V : Type 0} (keeping : V → Keeping) (key : Opened) (L : DeskLaws) (i
         lights = f.lights;
         sized = f.sized;
         settled = f.settled;
+        known = f.known;
       }
       (λ i ne. record { lock = λ j l e. e; home = λ j l e a. home_else keeping key later s.homes k j m.none (λ y. let z : i + 1 ≡ id + 1 = sym e ∙ (ap (lock_word s.words) y ∙ is) in ne (omega arith)) a; light = λ b j lb lj e. e; class = λ b l x. refl })
       record {
@@ -289,6 +291,7 @@ module _ {V : Type 0} (keeping : V → Keeping) (key : Opened) (L : DeskLaws) (i
         lights = λ b j y. let o = f.lights b j y in (o.0, o.1, dark b j ∙ o.2);
         sized = f.sized;
         settled = λ b n. class b ∙ f.settled b n;
+        known = known_stay p s.words words' v.joined (λ b l n. class b) f.known;
       }
       (λ i ne.
       let apart : (j : ℕ) → lock_word s.words j ≡ i + 1 → j ≢ k = λ j o y. let z : i + 1 ≡ id + 1 = sym o ∙ (ap (lock_word s.words) y ∙ is) in ne (omega arith) in
@@ -309,7 +312,7 @@ module _ {V : Type 0} (keeping : V → Keeping) (key : Opened) (L : DeskLaws) (i
             (cases_eq j k);
       }
       (lights_same p (state_after key later) s.words words' s.views id v w (λ b j lb lj. dark b j) at live refl refl kept.lights)
-      (classes_same p (state_after key later) s.words words' (λ b l. class b) kept.classes)
+      (classes_same key (state_after key later) s.words words' (λ b l. class b) kept.classes)
 
   pub frees : (slots k : ℕ) (x : V) → CanFree keeping me k x → Allows (Rule keeping key) slots id me (k + 1) (λ n. 0) (λ n. Frees (step slots (k + 1) 0 0 m.none) me 0)
   frees slots k x can s (later, kept) sized at small =

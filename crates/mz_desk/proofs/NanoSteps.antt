@@ -26,7 +26,7 @@ use Rattle.mz_desk.specs.Rule.{all_of, state_after, IsAloneSince, LightOwner, Ke
 use Rattle.mz_desk.specs.Needs.{Seated, CanLight, CanUnlight, CanClass}
 use Rattle.mz_desk.specs.Steps.{TriesLight, StoresLight, TriesClass}
 use Rattle.mz_desk.proofs.ListLemmas.{or_either, or_left, or_right, set_there}
-use Rattle.mz_desk.proofs.Frames.{moves, light_owner, lights_same, classes_same, other_word, locks_same, light_not_lock, class_not_lock, light_not_class}
+use Rattle.mz_desk.proofs.Frames.{settled_stay, known_stay, moves, light_owner, lights_same, classes_same, other_word, locks_same, light_not_lock, class_not_lock, light_not_class}
 use Rattle.mz_desk.proofs.Knowing.{slot_part}
 use Rattle.mz_desk.proofs.LockSteps.{clash_kept}
 
@@ -115,6 +115,7 @@ module _ {V : Type 0} (keeping : V → Keeping) (key : Opened) (L : DeskLaws) (i
             (or_either (same_light (light_at c k) (light_at b j)) (has_light v.lights (light_at c k)) (sym (L.light_taken v.lights (light_at b j) (light_at c k)) ∙ h));
         sized = f.sized;
         settled = λ c n. let e = f.settled c n in let l : c < p.nano = subst (λ x. c < x) f.sized (Rattle.mz_desk.proofs.ListLemmas.some_below v.settled c n) in class c l ∙ e;
+        known = known_stay p s.words words' v.joined (λ c l n. class c l) f.known;
       }
       (λ x ne. record { lock = λ k l e. lock k l ∙ e; home = λ k l e a. a; light = λ c k lc lk e. else_ (slot_place p c k) (apart c k x e) ∙ e; class = λ c l n. class c l })
       (locks_same keeping key st s.words words' s.homes s.views id v w lock at live refl refl kept.locks)
@@ -141,7 +142,7 @@ module _ {V : Type 0} (keeping : V → Keeping) (key : Opened) (L : DeskLaws) (i
             (kept.lights.each c k lc lk))
             (cases_eq (slot_place p c k) (slot_place p b j));
       }
-      (classes_same p st s.words words' class kept.classes)
+      (classes_same key st s.words words' class kept.classes)
 
   pub lights : (slots b j expect : ℕ) → CanLight me.0 b j expect → Allows (Rule keeping key) slots id me (slot_place me.0.profile b j) (λ n. either (n == expect) (2 + me.0.caller) n) (TriesLight b j (step slots (slot_place me.0.profile b j) expect (2 + me.0.caller) m.none) me)
   lights slots b j expect can s (later, kept) sized at small =
@@ -272,6 +273,7 @@ module _ {V : Type 0} (keeping : V → Keeping) (key : Opened) (L : DeskLaws) (i
             );
         sized = f.sized;
         settled = λ c n. let e = f.settled c n in let l : c < p.nano = subst (λ x. c < x) f.sized (Rattle.mz_desk.proofs.ListLemmas.some_below v.settled c n) in class c l ∙ e;
+        known = known_stay p s.words words' v.joined (λ c l n. class c l) f.known;
       }
       (λ x ne. record { lock = λ k l e. lock k l ∙ e; home = λ k l e a. a; light = λ c k lc lk e. else_ (slot_place p c k) (apart c k x ne e) ∙ e; class = λ c l n. class c l })
       (locks_same keeping key st s.words words' s.homes s.views id v w lock at live refl refl kept.locks)
@@ -287,7 +289,7 @@ module _ {V : Type 0} (keeping : V → Keeping) (key : Opened) (L : DeskLaws) (i
             (kept.lights.each c k lc lk))
             (cases_eq (slot_place p c k) (slot_place p b j));
       }
-      (classes_same p st s.words words' class kept.classes)
+      (classes_same key st s.words words' class kept.classes)
 
   pub stores : (slots b j word : ℕ) → CanUnlight me.0 b j word → Allows (Rule keeping key) slots id me (slot_place me.0.profile b j) (λ n. word) (λ n. StoresLight b j (step slots (slot_place me.0.profile b j) word 0 m.none) me word)
   stores slots b j word can s (later, kept) sized at small =
@@ -355,6 +357,7 @@ module _ {V : Type 0} (keeping : V → Keeping) (key : Opened) (L : DeskLaws) (i
             let e : get_or (set v.settled b class) c 0 ≡ get_or v.settled c 0 = get_or-set_other v.settled b c class 0 t in
             rest c t ∙ (f.settled c (λ z. d (e ∙ z)) ∙ sym e))
             (cases_eq c b);
+        known = known_stay p s.words words' v.joined (λ c l d. stay c d) f.known;
       }
       (λ x ne. record { lock = λ k l e. lock k l ∙ e; home = λ k l e a. a; light = λ c k lc lk e. dark c k ∙ e; class = λ c l d. stay c d })
       (locks_same keeping key st s.words words' s.homes s.views id v w lock at live refl refl kept.locks)
@@ -371,6 +374,7 @@ module _ {V : Type 0} (keeping : V → Keeping) (key : Opened) (L : DeskLaws) (i
             absurd (omega arith))
             (λ (z : class_word p s.words c ≡ 0 → ⊥). kept.classes.of_class c x l h ∙ ap slot_size (sym (stay c z)))
             (cases_eq (class_word p s.words c) 0);
+        stays = settled_stay p s.words words' key.classes (λ c l d. stay c d) kept.classes.stays;
       }
 
   pub classes : (slots b class : ℕ) → CanClass me.0 b class → Allows (Rule keeping key) slots id me (class_place me.0.profile b) (λ n. either (n == 0) class n) (TriesClass b (step slots (class_place me.0.profile b) 0 class m.none) me)

@@ -20,9 +20,10 @@ use Rattle.mz_book.specs.Keepers.{is_held}
 use Rattle.mz_book.specs.Lights.{is_slot_live}
 use Rattle.mz_book.specs.Pairs.{owners}
 use Rattle.mz_book.specs.Account.{is_live}
+use Rattle.mz_desk.specs.declared.view.TakenIn.{TakenIn}
 use Rattle.mz_desk.specs.declared.view.View.{View}
 use Rattle.mz_desk.specs.Views.{Opened, first_view, pairs_of}
-use Rattle.mz_desk.specs.Rule.{all_of, state_after, AtHome, IsAloneSince, IsWhose, IsTaken, SeatKeeps, LockOwner, LightOwner, Kept, Rule}
+use Rattle.mz_desk.specs.Rule.{all_of, state_after, AreSettled, AtHome, IsAloneSince, IsWhose, IsTaken, SeatKeeps, LockOwner, LightOwner, Kept, Rule}
 use Rattle.mz_desk.specs.Opening.{CanOpen}
 
 only_first : (u v : View) (i : ℕ) → get_elem? (u ∷ []) i ≡ m.some v → (i ≡ 0) × (u ≡ v)
@@ -77,6 +78,7 @@ module _ {V : Type 0} (keeping : V → Keeping) (key : Opened) (ws : List ℕ) (
     lights = λ b j h. absurd (false≢true h);
     sized = length-replicate p.nano 0;
     settled = λ b n. absurd (n (nothing p.nano b 0));
+    known = All-nil (λ (x : TakenIn). AreSettled p ws x.settled);
   }
 
   opens_kept : Kept keeping key (table.opening ws ks v) []
@@ -106,7 +108,7 @@ module _ {V : Type 0} (keeping : V → Keeping) (key : Opened) (ws : List ℕ) (
       spent = λ i u e l. absurd (false≢true (sym l ∙ ap (λ (z : View). z.live) (sym (only_first v u i e).1)));
     };
     lights = record { each = λ b j lb lj. inl (can.lights b j lb lj ∙ ap (λ (t : State). one_for (is_slot_live p t b j)) (sym state_same)) };
-    classes = subst (λ (t : State). Rattle.mz_desk.specs.Rule.ClassesKeep p t ws) (sym state_same) can.classes;
+    classes = subst (λ (t : State). Rattle.mz_desk.specs.Rule.ClassesKeep key t ws) (sym state_same) can.classes;
   }
 
   pub opens : Rule keeping key (table.opening ws ks (first_view key))

@@ -32,7 +32,7 @@ use Rattle.mz_desk.specs.Laws.{DeskLaws}
 use Rattle.mz_desk.specs.Words.{light_word}
 use Rattle.mz_desk.specs.Views.{Opened, has_lock, took_in, all_pairs, pairs_of, pairs_besides}
 use Rattle.mz_desk.specs.Seats.{giver, given_view, joined_view, spent_view, CanGive, CanTakeIn}
-use Rattle.mz_desk.specs.Rule.{all_of, state_after, IsAloneSince, IsWhose, SeatKeeps, LightOwner, IsSpent, IsTaken, HandsKeep, LightsKeep, LocksKeep, Kept, Rule}
+use Rattle.mz_desk.specs.Rule.{all_of, state_after, AreSettled, IsAloneSince, IsWhose, SeatKeeps, LightOwner, IsSpent, IsTaken, HandsKeep, LightsKeep, LocksKeep, Kept, Rule}
 use Rattle.mz_desk.proofs.ListLemmas.{or_left, or_right, set_there, at_length, snoc_at}
 use Rattle.mz_desk.proofs.Frames.{lock_owner, spent_stays}
 use Rattle.mz_desk.proofs.Knowing.{owners_append, owners_set, slot_append, hand_append}
@@ -186,6 +186,7 @@ module _ {V : Type 0} (keeping : V → Keeping) (key : Opened) (L : DeskLaws) (i
     lights = f.lights;
     sized = f.sized;
     settled = f.settled;
+    known = f.known;
   }
 
   new_seat : SeatKeeps keeping key later s.words s.homes new b
@@ -214,6 +215,7 @@ module _ {V : Type 0} (keeping : V → Keeping) (key : Opened) (L : DeskLaws) (i
     lights = λ x j h. absurd (false≢true h);
     sized = length-replicate v.profile.nano 0 ∙ ap (λ (q : Profile). q.nano) f.profile;
     settled = λ x n. absurd (n (zeros v.profile.nano x 0));
+    known = All-nil (λ (x : TakenIn). AreSettled p s.words x.settled);
   }
 
   split_hands : HandsKeep key st later views'
@@ -392,6 +394,7 @@ module _ {V : Type 0} (keeping : V → Keeping) (key : Opened) (L : DeskLaws) (i
     lights = fv.lights;
     sized = fv.sized;
     settled = fv.settled;
+    known = All-cons (λ (x : TakenIn). AreSettled q s.words x.settled) (record { caller = w.caller; seen = w.seen; noted = w.noted; pairs = w.pairs; settled = w.settled }) v.joined (λ b l n. fw.settled b n) fv.known;
   }
 
   joined_hands : HandsKeep key sj later viewsj
@@ -426,7 +429,7 @@ module _ {V : Type 0} (keeping : V → Keeping) (key : Opened) (L : DeskLaws) (i
         (λ (t : (i ≡ other) × (spent_view ≡ u)). absurd (false≢true (ap (λ (z : View). z.live) t.1 ∙ l)))
         (λ (t : (i ≢ other) × (get_elem? viewsb i ≡ m.some u)). ⊎_elim
         (λ (y : (i ≡ id) × (both ≡ u)). subst (λ (z : View). All (IsTaken key viewsj later) z.joined) y.1
-        (All-cons (IsTaken key viewsj later) (record { caller = w.caller; seen = w.seen; noted = w.noted; pairs = w.pairs }) v.joined
+        (All-cons (IsTaken key viewsj later) (record { caller = w.caller; seen = w.seen; noted = w.noted; pairs = w.pairs; settled = w.settled }) v.joined
         record { rest = fw.rest; seen = fw.seen; whose = subst (λ (c : ℕ). All (λ (h : Pair). h.caller ≡ c) w.pairs) (sym fw.caller) its_own; hand = subst (λ (c : ℕ). hand_among c w.pairs ≡ hand_through (hand_among c key.pairs) w.noted) (sym fw.caller) fw.hand; noted = fw.noted ∙ ap (λ (n : ℕ). own n later) (sym fw.caller); spent = subst (IsSpent viewsj) (sym fw.caller) (record { view = spent_view; at = spent_at; spent = refl }) }
         (All-weaker (IsTaken key s.views later) (IsTaken key viewsj later) (λ x a. record { rest = a.rest; seen = a.seen; whose = a.whose; hand = a.hand; noted = a.noted; spent = keep_spent x.caller a.spent }) v.joined (kept.hands.taken id v at can.live))))
         (λ (y : (i ≢ id) × (get_elem? s.views i ≡ m.some u)). All-weaker (IsTaken key s.views later) (IsTaken key viewsj later) (λ x a. record { rest = a.rest; seen = a.seen; whose = a.whose; hand = a.hand; noted = a.noted; spent = keep_spent x.caller a.spent }) u.joined (kept.hands.taken i u y.1 l))

@@ -16,7 +16,7 @@ use Rattle.mz_desk.specs.declared.view.TakenIn.{TakenIn}
 use Rattle.mz_desk.specs.declared.view.View.{View}
 use Rattle.mz_desk.specs.Words.{light_word}
 use Rattle.mz_desk.specs.Views.{Opened, took_in}
-use Rattle.mz_desk.specs.Rule.{all_of, state_after, Homes, AtHome, ClassesKeep}
+use Rattle.mz_desk.specs.Rule.{all_of, state_after, AreSettled, Homes, AtHome, ClassesKeep}
 
 -- seat 0 holds nothing, and took in the seats of all other callers
 pub record TookAll (v : View) : Type 0 where
@@ -28,16 +28,17 @@ pub record TookAll (v : View) : Type 0 where
   pub all : (c : ℕ) → 1 ≤ c → c < v.profile.callers → took_in v c ≡ true
 
 -- What a seat had seen begins the history; its record is all that its caller has in it since the opening, and its hand what that makes of
--- the one at the opening.
-pub record IsPartOf (key : Opened) (later : List Entry) (x : TakenIn) : Type 0 where
+-- the one at the opening; and the classes that it knew are the words.
+pub record IsPartOf (key : Opened) (words : List ℕ) (later : List Entry) (x : TakenIn) : Type 0 where
   pub rest : List Entry
   pub seen : all_of key later ≡ x.seen ++ rest
   pub noted : x.noted ≡ own x.caller later
   pub hand : hand_among x.caller x.pairs ≡ hand_through (hand_among x.caller key.pairs) x.noted
+  pub settled : AreSettled key.profile words x.settled
 
 -- the seat's own part
 abbrev pub part_of : View → TakenIn
-part_of v = record { caller = v.caller; seen = v.seen; noted = v.noted; pairs = v.pairs }
+part_of v = record { caller = v.caller; seen = v.seen; noted = v.noted; pairs = v.pairs; settled = v.settled }
 
 -- At the opening each live block was in exactly one hand. The history is lawful, the counter is its length, and each entry since the
 -- opening is of a caller, and ends, resizes and denies only what is in its hand then; all seats' records are parts of it, and the pairs of
@@ -49,10 +50,10 @@ pub record Ended {V : Type 0} (keeping : V → Keeping) (key : Opened) (v : View
   pub lawful : AreLawful key.profile opening (all_of key later)
   pub below : All (λ e. e.caller < key.profile.callers) later
   pub handed : AreHanded key.pairs later
-  pub mine : IsPartOf key later (part_of v)
-  pub others : All (IsPartOf key later) v.joined
+  pub mine : IsPartOf key words later (part_of v)
+  pub others : All (IsPartOf key words later) v.joined
   pub whose : All (λ x. All (λ h. h.caller ≡ x.caller) x.pairs) v.joined
   pub in_one_hand : AreInOneHand (state_after key later) v.pairs
   pub home : (k : ℕ) → k < keeper_count key.profile → AtHome keeping key (state_after key later) homes k
   pub lights : (b j : ℕ) → b < key.profile.nano → j < 1024 → light_word key.profile words b j ≡ one_for (is_slot_live key.profile (state_after key later) b j)
-  pub classes : ClassesKeep key.profile (state_after key later) words
+  pub classes : ClassesKeep key (state_after key later) words

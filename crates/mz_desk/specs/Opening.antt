@@ -26,4 +26,4 @@ pub record CanOpen {V : Type 0} (keeping : V → Keeping) (key : Opened) (ws : L
   pub free : (k : ℕ) → k < keeper_count key.profile → lock_word ws k ≡ 0
   pub home : (k : ℕ) → k < keeper_count key.profile → AtHome keeping key (after_all key.profile opening key.history) (map m.some ks) k
   pub lights : (b j : ℕ) → b < key.profile.nano → j < 1024 → light_word key.profile ws b j ≡ one_for (is_slot_live key.profile (after_all key.profile opening key.history) b j)
-  pub classes : ClassesKeep key.profile (after_all key.profile opening key.history) ws
+  pub classes : ClassesKeep key (after_all key.profile opening key.history) ws

@@ -39,6 +39,10 @@ all_of key later = key.history ++ later
 abbrev pub state_after : Opened → List Entry → State
 state_after key later = after_all key.profile opening (all_of key later)
 
+-- each class of these that isn't 0 is the word of its block
+abbrev pub AreSettled : Profile → List ℕ → List ℕ → Type 0
+AreSettled p words classes = (b : ℕ) → b < p.nano → slice_index_or classes b 0 ≢ 0 → class_word p words b ≡ slice_index_or classes b 0
+
 abbrev pub Homes : Type 0 → Type 0
 Homes V = List (m.Option (Option V))
 
@@ -65,7 +69,7 @@ IsWhose i v h = (h.caller ≡ i) ⊎ (((i ≡ 0) × (v.given ≤ h.caller)) ⊎ 
 
 -- What holds of the view of the seat i, where it isn't spent. The history is what the seat has seen and some rest, in which nobody
 -- else touched a place that it holds; its record is all that its caller has in it; the words of its locks and lights show it; and
--- the classes that it knows are the words. Its hand is what its record makes of its caller's hand at the opening. As long as it took in no other, each of its pairs is there once, and live by what it has seen.
+-- the classes that it knows, and those that seats that it took in knew, are the words. Its hand is what its record makes of its caller's hand at the opening. As long as it took in no other, each of its pairs is there once, and live by what it has seen.
 pub record SeatKeeps {V : Type 0} (keeping : V → Keeping) (key : Opened) (later : List Entry) (words : List ℕ) (homes : Homes V) (i : ℕ) (v : View) : Type 0 where
   pub profile : v.profile ≡ key.profile
   pub space : v.space ≡ key.space
@@ -86,6 +90,7 @@ pub record SeatKeeps {V : Type 0} (keeping : V → Keeping) (key : Opened) (late
   pub lights : (b j : ℕ) → has_light v.lights (light_at b j) ≡ true → (b < key.profile.nano) × (j < 1024) × (light_word key.profile words b j ≡ 2 + i)
   pub sized : length v.settled ≡ key.profile.nano
   pub settled : (b : ℕ) → slice_index_or v.settled b 0 ≢ 0 → class_word key.profile words b ≡ slice_index_or v.settled b 0
+  pub known : All (λ x. AreSettled key.profile words x.settled) v.joined
 
 -- the seat whose number the lock word of k shows
 pub record LockOwner (words : List ℕ) (views : List View) (k : ℕ) : Type 0 where
@@ -156,10 +161,12 @@ pub record HandsKeep (key : Opened) (st : State) (later : List Entry) (views : L
 pub record LightsKeep (p : Profile) (st : State) (words : List ℕ) (views : List View) : Type 0 where
   pub each : (b j : ℕ) → b < p.nano → j < 1024 → (light_word p words b j ≡ one_for (is_slot_live p st b j)) ⊎ LightOwner p st words views b j
 
--- Part 7: class words are at most 16, and the size of each live block of nano is that of its class.
-pub record ClassesKeep (p : Profile) (st : State) (words : List ℕ) : Type 0 where
-  pub most : (b : ℕ) → b < p.nano → class_word p words b ≤ 16
-  pub of_class : (b : ℕ) (x : Block) → b < p.nano → has_block (kept_at st (nano_page (page_of_block p b))).live x ≡ true → x.size ≡ slot_size (class_word p words b)
+-- Part 7: class words are at most 16, and the size of each live block of nano is that of its class; a class that isn't 0 at the opening
+-- stays.
+pub record ClassesKeep (key : Opened) (st : State) (words : List ℕ) : Type 0 where
+  pub most : (b : ℕ) → b < key.profile.nano → class_word key.profile words b ≤ 16
+  pub of_class : (b : ℕ) (x : Block) → b < key.profile.nano → has_block (kept_at st (nano_page (page_of_block key.profile b))).live x ≡ true → x.size ≡ slot_size (class_word key.profile words b)
+  pub stays : AreSettled key.profile words key.classes
 
 -- all seven parts, for the entries that came since the opening
 pub record Kept {V : Type 0} (keeping : V → Keeping) (key : Opened) (s : table.State (Option V) View) (later : List Entry) : Type 0 where
@@ -172,7 +179,7 @@ pub record Kept {V : Type 0} (keeping : V → Keeping) (key : Opened) (s : table
   pub seats : (i : ℕ) (v : View) → get_elem? s.views i ≡ m.some v → v.live ≡ true → SeatKeeps keeping key later s.words s.homes i v
   pub hands : HandsKeep key (state_after key later) later s.views
   pub lights : LightsKeep key.profile (state_after key later) s.words s.views
-  pub classes : ClassesKeep key.profile (state_after key later) s.words
+  pub classes : ClassesKeep key (state_after key later) s.words
 
 abbrev pub Rule : {V : Type 0} → (V → Keeping) → Opened → table.State (Option V) View → Type 0
 Rule keeping key s = (later : List Entry) × Kept keeping key s later

@@ -28,7 +28,7 @@ given_view v = record v {
 
 -- join-seat: seat 0 after it took in another, with its record and its hand. It goes on with what it has seen.
 abbrev pub joined_view : View → View → View
-joined_view v w = record v { pairs = v.pairs ++ w.pairs; joined = record { caller = w.caller; seen = w.seen; noted = w.noted; pairs = w.pairs } ∷ v.joined }
+joined_view v w = record v { pairs = v.pairs ++ w.pairs; joined = record { caller = w.caller; seen = w.seen; noted = w.noted; pairs = w.pairs; settled = w.settled } ∷ v.joined }
 
 abbrev pub spent_view : View
 spent_view = record {

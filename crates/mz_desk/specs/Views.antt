@@ -18,12 +18,14 @@ use Rattle.mz_desk.specs.declared.view.Load.{Load}
 use Rattle.mz_desk.specs.declared.view.Win.{Win}
 use Rattle.mz_desk.specs.declared.view.View.{View}
 
--- What a register is opened with: the profile, the space of the keepers, the history so far, and the pairs of all callers.
+-- What a register is opened with: the profile, the space of the keepers, the history so far, the pairs of all callers, and the class of
+-- each block of nano, or 0.
 pub record Opened : Type 0 where
   pub profile : Profile
   pub space : SpaceName
   pub history : List Entry
   pub pairs : List Pair
+  pub classes : List ℕ
 
 abbrev pub site_at : SpaceName → Site
 site_at x = record { name = x.name; block = x.block; origin = x.origin; size = x.size }

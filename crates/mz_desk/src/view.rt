@@ -7,13 +7,14 @@ use mz_events::Entry;
 use std::collections::LinkedList;
 use std::snapshot::Snapshot;
 
-/// What a register is opened with: the profile, the history so far, for each quantum the caller who owns the block that begins there, and
-/// a keeper of the space of all, for contracts alone.
+/// What a register is opened with: the profile, the history so far, for each quantum the caller who owns the block that begins there, for
+/// each block of nano its class, and a keeper of the space of all, for contracts alone.
 #[derive(Drop)]
 pub struct Opening<V> {
     pub profile: Profile,
     pub history: Vec<Entry>,
     pub quanta: Vec<u8>,
+    pub classes: Vec<u64>,
     pub site: Snapshot<V>,
 }
 
@@ -44,12 +45,13 @@ pub struct Win {
     pub to: u64,
 }
 
-/// A seat that was taken in: its number, what it had seen, its record and its pairs.
+/// A seat that was taken in: its number, what it had seen, its record, its pairs, and the classes that it knew.
 pub struct TakenIn {
     pub caller: u32,
     pub seen: LinkedList<Entry>,
     pub noted: LinkedList<Entry>,
     pub pairs: LinkedList<Pair>,
+    pub settled: LinkedList<u64>,
 }
 
 /// The view of a seat. Lists of loads, wins and clashes have the newest first.

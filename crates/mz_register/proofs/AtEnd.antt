@@ -21,5 +21,5 @@ module _ {V : Type 0} (keeping : V → Keeping) (r : Register V) (passes : List 
   last = joined_through a.first.seat.me.0 (views_of a.others)
 
   pub at_end : Ended keeping (opened_as keeping r.opening) last (slots_items closed.words) k.homes
-  at_end = subst (λ (key : Opened). Ended keeping key last (slots_items closed.words) k.homes) (same_key keeping r.table.shared.key r.opening r.profile r.history r.quanta r.site)
+  at_end = subst (λ (key : Opened). Ended keeping key last (slots_items closed.words) k.homes) (same_key keeping r.table.shared.key r.opening r.profile r.history r.quanta r.classes r.site)
       (subst (λ (v : View). Ended keeping (opened_as keeping r.table.shared.key) v (slots_items closed.words) k.homes) a.view k.ended)

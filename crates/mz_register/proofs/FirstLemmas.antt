@@ -33,7 +33,7 @@ first_rested key = record {
   lit = refl;
 }
 
-pub first_knowing : {V : Type 0} (keeping : V → Keeping) (x : Parts V) → FitTogether keeping x → IsKnowing (first_view (opened_as keeping (record { profile = x.profile; history = x.history; quanta = x.quanta; site = x.site })))
+pub first_knowing : {V : Type 0} (keeping : V → Keeping) (x : Parts V) → FitTogether keeping x → IsKnowing (first_view (opened_as keeping (record { profile = x.profile; history = x.history; quanta = x.quanta; classes = x.classes; site = x.site })))
 first_knowing keeping x fit = record {
   limits = fit.limits;
   caller = let c = fit.limits.callers.0 in omega arith;
@@ -81,9 +81,9 @@ dealt_at : {V : Type 0} (z : TableId) (key : Opened) (n : ℕ) (first : Pass V) 
 dealt_at z key n first others zero x f h e = subst (IsNew z key 0) (some_is first x e) (first_new z key n first f)
 dealt_at z key n first others (suc i) x f h e = subst (λ (k : ℕ). IsNew z key k x) (omega arith) (new_at z key 1 others i x h e)
 
-pub all_opened : {V : Type 0} (keeping : V → Keeping) (x : Parts V) (z : TableId) (passes : List (Pass V)) → AreDealt z (opened_as keeping (record { profile = x.profile; history = x.history; quanta = x.quanta; site = x.site })) x.profile.callers passes → IsOpened (account_in keeping x) z x.profile passes
+pub all_opened : {V : Type 0} (keeping : V → Keeping) (x : Parts V) (z : TableId) (passes : List (Pass V)) → AreDealt z (opened_as keeping (record { profile = x.profile; history = x.history; quanta = x.quanta; classes = x.classes; site = x.site })) x.profile.callers passes → IsOpened (account_in keeping x) z x.profile passes
 all_opened keeping x z passes d = record {
   profile = refl;
   count = let n = ap length d.all in let c = d.count in omega arith;
-  each = λ c y e. dealt_at z (opened_as keeping (record { profile = x.profile; history = x.history; quanta = x.quanta; site = x.site })) x.profile.callers d.first d.others c y d.gives d.new (ap (λ ps. slice_get ps c) (sym d.all) ∙ e);
+  each = λ c y e. dealt_at z (opened_as keeping (record { profile = x.profile; history = x.history; quanta = x.quanta; classes = x.classes; site = x.site })) x.profile.callers d.first d.others c y d.gives d.new (ap (λ ps. slice_get ps c) (sym d.all) ∙ e);
 }

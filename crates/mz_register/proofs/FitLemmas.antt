@@ -44,11 +44,11 @@ same_space : (x y : Site) → site_numbers x ≡ site_numbers y → space_name x
 unfolding space_from
 same_space x y e = ap space_from e
 
-pub same_key : {V : Type 0} (keeping : V → Keeping) (o q : Opening V) → o.profile ≡ q.profile → o.history.items ≡ q.history.items → o.quanta.items ≡ q.quanta.items → ∥ o.site ≡ q.site ∥₁ → opened_as keeping o ≡ opened_as keeping q
-same_key keeping o q p h u s =
+pub same_key : {V : Type 0} (keeping : V → Keeping) (o q : Opening V) → o.profile ≡ q.profile → o.history.items ≡ q.history.items → o.quanta.items ≡ q.quanta.items → o.classes.items ≡ q.classes.items → ∥ o.site ≡ q.site ∥₁ → opened_as keeping o ≡ opened_as keeping q
+same_key keeping o q p h u c s =
     let n : site_numbers (site_of (keeping o.site.value)) ≡ site_numbers (site_of (keeping q.site.value)) = ∥∥₁_elim s (Coded-set (coded_list coded_ℕ) _ _) (λ e. ap (λ x. site_numbers (site_of (keeping x.value))) e) in
     let w = same_space (site_of (keeping o.site.value)) (site_of (keeping q.site.value)) n in
-    λ i. record { profile = p i; space = w i; history = h i; pairs = pairs_told (u i) (h i) }
+    λ i. record { profile = p i; space = w i; history = h i; pairs = pairs_told (u i) (h i); classes = c i }
 
 -- rows of words
 
@@ -82,10 +82,10 @@ read_home [] k x e = absurd (some-ne-none (Some x) (sym e))
 read_home (y ∷ ys) zero x e = some-injective y (Some x) e
 read_home (y ∷ ys) (suc k) x e = read_home ys k x e
 
-module _ {V : Type 0} (keeping : V → Keeping) (x : Parts V) (before : List Entry) (quanta : List ℕ) (v : View) (words : List ℕ) (homes : Homes V) where
+module _ {V : Type 0} (keeping : V → Keeping) (x : Parts V) (before : List Entry) (quanta opened_classes : List ℕ) (v : View) (words : List ℕ) (homes : Homes V) where
   -- what the table of the register was told
   abbrev pub told : Opened
-  told = record { profile = x.profile; space = space_name (site_in keeping x); history = before; pairs = pairs_told quanta before }
+  told = record { profile = x.profile; space = space_name (site_in keeping x); history = before; pairs = pairs_told quanta before; classes = opened_classes }
 
   module _ (e : Ended keeping told v words homes) where
     abbrev p : Profile

@@ -1,5 +1,5 @@
 -- What all passes tell when they come in.
-use Rattle.std.proofs.Common.{◌≡◌, ℕ, ◌<◌, ◌≤◌, true, List, [], ◌∷◌, ◌++◌, length, Option, Some, Vec, refl, sym, ap, ◌∙◌, subst, arith, zero, suc}
+use Rattle.std.proofs.Common.{◌≡◌, ◌≢◌, ℕ, ◌<◌, ◌≤◌, true, List, [], ◌∷◌, ◌++◌, length, get_or, Option, Some, Vec, refl, sym, ap, ◌∙◌, subst, arith, zero, suc}
 use Rattle.std.specs.Prelude.{slice_get}
 use Rattle.std.specs.List.{All}
 use Rattle.std.specs.declared.alloc.Global.{Global}
@@ -14,7 +14,7 @@ use Rattle.mz_book.specs.Pairs.{hand_among}
 use Rattle.mz_desk.specs.declared.view.TakenIn.{TakenIn}
 use Rattle.mz_desk.specs.declared.view.View.{View}
 use Rattle.mz_desk.specs.Views.{Opened, took_in}
-use Rattle.mz_desk.specs.Rule.{Homes, all_of}
+use Rattle.mz_desk.specs.Rule.{AreSettled, Homes, all_of}
 use Rattle.mz_desk.specs.Ending.{TookAll, IsPartOf, Ended}
 use Rattle.mz_register.specs.declared.pass.Pass.{Pass}
 use Rattle.mz_register.specs.Accounts.{pass_account}
@@ -28,6 +28,12 @@ pub there : {A : Type 0} (xs : List A) (i : ℕ) → i < length xs → (x : A) �
 there [] i l = absurd (omega arith)
 there (x ∷ xs) zero l = (x, refl)
 there (x ∷ xs) (suc i) l = there xs i (omega arith)
+
+-- where a number isn't 0 there is one
+pub some_below : (xs : List ℕ) (i : ℕ) → get_or xs i 0 ≢ 0 → i < length xs
+some_below [] i n = absurd (n refl)
+some_below (x ∷ xs) zero n = omega arith
+some_below (x ∷ xs) (suc i) n = let l = some_below xs i n in omega arith
 
 module _ {V : Type 0} (z : TableId) (p : Profile) (passes : List (Pass V)) (all : AreAll z p passes) (seat : Seat (Option V) View) (noted : List (Vec Entry Global)) (held : Vec ℕ Global) (a : AreIn z passes seat noted held) where
   abbrev v0 : View
@@ -70,11 +76,12 @@ module _ {V : Type 0} (z : TableId) (p : Profile) (passes : List (Pass V)) (all 
   all_in = subst TookAll (sym a.view) took_all
 
   -- what pass c, which had this view, was at the end
-  pub record IsEnd (key : Opened) (later : List Entry) (c : ℕ) (v : View) : Type 0 where
+  pub record IsEnd (key : Opened) (words : List ℕ) (later : List Entry) (c : ℕ) (v : View) : Type 0 where
     pub rest : List Entry
     pub seen : all_of key later ≡ v.seen ++ rest
     pub noted_is : v.noted ≡ own c later
     pub hand : hand_among c v.pairs ≡ hand_through (hand_among c key.pairs) (own c later)
+    pub settled : AreSettled key.profile words v.settled
 
   module _ (keeping : V → Keeping) (key : Opened) (words : List ℕ) (homes : Homes V) (e : Ended keeping key (joined_through v0 ws) words homes) where
     abbrev end : View
@@ -83,7 +90,7 @@ module _ {V : Type 0} (z : TableId) (p : Profile) (passes : List (Pass V)) (all 
     whose : (i : ℕ) (w : View) → slice_get ws i ≡ Some w → All (λ h. h.caller ≡ w.caller) w.pairs
     whose = (each_part (λ (x : TakenIn). All (λ (h : Pair). h.caller ≡ x.caller) x.pairs) v0 ws e.whose).1
 
-    first_end : IsEnd key e.later 0 v0
+    first_end : IsEnd key words e.later 0 v0
     first_end =
         let l = like v0 ws in
         let m = e.mine in
@@ -95,12 +102,13 @@ module _ {V : Type 0} (z : TableId) (p : Profile) (passes : List (Pass V)) (all 
           seen = m.seen ∙ ap (λ (es : List Entry). es ++ m.rest) l.seen;
           noted_is = sym l.noted ∙ n;
           hand = sym (hand_first 0 v0 ws (λ i w at. (whose i w at, λ y. let o = of_other i w at in absurd (omega arith)))) ∙ (h ∙ ap (hand_through (hand_among 0 key.pairs)) n);
+          settled = subst (AreSettled key.profile words) l.settled m.settled;
         }
 
-    other_end : (i : ℕ) (x : Pass V) → slice_get a.others i ≡ Some x → IsEnd key e.later (suc i) x.seat.me.0
+    other_end : (i : ℕ) (x : Pass V) → slice_get a.others i ≡ Some x → IsEnd key words e.later (suc i) x.seat.me.0
     other_end i x at =
         let w = x.seat.me.0 in
-        let m = (each_part (IsPartOf key e.later) v0 ws e.others).1 i w (at_map (λ (y : Pass V). y.seat.me.0) a.others i x at) in
+        let m = (each_part (IsPartOf key words e.later) v0 ws e.others).1 i w (at_map (λ (y : Pass V). y.seat.me.0) a.others i x at) in
         let o : w.caller ≡ suc i = (other i x at).caller in
         let n : w.noted ≡ own (suc i) e.later = m.noted ∙ ap (λ (c : ℕ). own c e.later) o in
         record {
@@ -108,13 +116,14 @@ module _ {V : Type 0} (z : TableId) (p : Profile) (passes : List (Pass V)) (all 
           seen = m.seen;
           noted_is = n;
           hand = subst (λ (c : ℕ). hand_among c w.pairs ≡ hand_through (hand_among c key.pairs) w.noted) o m.hand ∙ ap (hand_through (hand_among (suc i) key.pairs)) n;
+          settled = m.settled;
         }
 
-    pub each_end : (c : ℕ) (x : Pass V) → slice_get passes c ≡ Some x → IsEnd key e.later c x.seat.me.0
+    pub each_end : (c : ℕ) (x : Pass V) → slice_get passes c ≡ Some x → IsEnd key words e.later c x.seat.me.0
     each_end c x at = at_end c x (ap (λ ps. slice_get ps c) (sym a.all) ∙ at)
       where
-        at_end : (k : ℕ) (y : Pass V) → slice_get (a.first ∷ a.others) k ≡ Some y → IsEnd key e.later k y.seat.me.0
-        at_end zero y h = subst (λ (q : Pass V). IsEnd key e.later 0 q.seat.me.0) (some_is a.first y h) first_end
+        at_end : (k : ℕ) (y : Pass V) → slice_get (a.first ∷ a.others) k ≡ Some y → IsEnd key words e.later k y.seat.me.0
+        at_end zero y h = subst (λ (q : Pass V). IsEnd key words e.later 0 q.seat.me.0) (some_is a.first y h) first_end
         at_end (suc i) y h = other_end i y h
 
     pub each_noted : (c : ℕ) (x : Pass V) → slice_get passes c ≡ Some x → x.noted.items ≡ own c e.later

@@ -35,12 +35,13 @@ pub record IsLike (v u : View) : Type 0 where
   pub lights : u.lights ≡ v.lights
   pub seen : u.seen ≡ v.seen
   pub noted : u.noted ≡ v.noted
+  pub settled : u.settled ≡ v.settled
 
 pub like : (v : View) (ws : List View) → IsLike v (joined_through v ws)
-like v [] = record { live = refl; profile = refl; caller = refl; held = refl; taking = refl; lights = refl; seen = refl; noted = refl }
+like v [] = record { live = refl; profile = refl; caller = refl; held = refl; taking = refl; lights = refl; seen = refl; noted = refl; settled = refl }
 like v (w ∷ ws) =
     let r = like (joined_view v w) ws in
-    record { live = r.live; profile = r.profile; caller = r.caller; held = r.held; taking = r.taking; lights = r.lights; seen = r.seen; noted = r.noted }
+    record { live = r.live; profile = r.profile; caller = r.caller; held = r.held; taking = r.taking; lights = r.lights; seen = r.seen; noted = r.noted; settled = r.settled }
 
 -- the seats that were taken in
 

@@ -80,7 +80,7 @@ few_keepers p l =
 
 module _ {V : Type 0} (keeping : V → Keeping) (x : Parts V) (fit : FitTogether keeping x) where
   abbrev opened : Opened
-  opened = opened_as keeping (record { profile = x.profile; history = x.history; quanta = x.quanta; site = x.site })
+  opened = opened_as keeping (record { profile = x.profile; history = x.history; quanta = x.quanta; classes = x.classes; site = x.site })
 
   abbrev words : List ℕ
   words = all_words (length x.history.items) (length x.keepers.items) x.classes.items x.slots.items
@@ -104,10 +104,11 @@ module _ {V : Type 0} (keeping : V → Keeping) (x : Parts V) (fit : FitTogether
       let n = fit.keepers in
       record { keeper = t.0; here = at_map m.some x.keepers.items k (Some t.0) (at_get x.keepers.items k None (omega arith) ∙ ap m.some t.1); stands = t.2; calm = none_is (value_at (state_in x) (keeper_spot p k)).duty h.1 }
 
-  classes : ClassesKeep p (state_in x) words
+  classes : ClassesKeep opened (state_in x) words
   classes = record {
     most = λ b l. let c = fit.class_count in let t = test_at (λ k. nat_le k 16) x.classes.items b fit.class_most (omega arith) in let e = class_is b l in let s : get_or x.classes.items b 0 ≤ 16 = grind (arith, nat_tests, t) in omega arith;
     of_class = λ b y l h. fit.of_class b y l h ∙ ap slot_size (sym (class_is b l));
+    stays = λ b l n. class_is b l;
   }
 
   pub can_open : (ws : List ℕ) → ws ≡ words → CanOpen keeping opened ws x.keepers.items

@@ -1,5 +1,5 @@
 -- All passes come in, and the register is a plain book again. This project's own.
-use Rattle.std.specs.Prelude.{◌≡◌, ℕ, ◌<◌, true, Vec, List, [], ◌∷◌, ◌++◌, length, map, slice_get, Option, Some}
+use Rattle.std.specs.Prelude.{◌≡◌, ◌≢◌, ℕ, ◌<◌, true, Vec, List, [], ◌∷◌, ◌++◌, length, map, slice_get, Option, Some}
 use Rattle.std.specs.List.{All}
 use Rattle.std.specs.declared.alloc.Global.{Global}
 use mathlib.Core.Option as m
@@ -15,7 +15,7 @@ use Rattle.mz_events.specs.History.{AreLawful}
 use Rattle.mz_events.specs.Hands.{own}
 use Rattle.mz_events.specs.Standing.{Keeping}
 use Rattle.mz_book.specs.Pairs.{hand_among}
-use Rattle.mz_book.specs.Account.{Account, HoldsNothing, hand}
+use Rattle.mz_book.specs.Account.{Account, HoldsNothing, hand, class_of}
 use Rattle.mz_book.specs.Owners.{pairs_told}
 use Rattle.mz_book.specs.Plain.{site_of}
 use Rattle.mz_desk.specs.declared.view.View.{View}
@@ -43,7 +43,7 @@ former keeping r = record {
   spare = 0;
   holds = r.rest.holds;
   lights = [];
-  settled = r.rest.classes.items;
+  settled = r.opening.classes.items;
   founds = r.rest.founds;
   found = r.rest.found;
 }
@@ -98,18 +98,20 @@ pub record IsSame {V : Type 0} (keeping : V → Keeping) (r q : Register V) : Ty
   pub former : former keeping q ≡ former keeping r
 
 -- the part of caller c, whose pass had this account: what it had seen begins the history, its record is all that it has in it since the
--- opening, and its hand is that of its pass
+-- opening, its hand is that of its pass, and blocks have the classes that it knew
 pub record IsPassOf (s : Account) (later : List Entry) (t : Account) (c : ℕ) (x : Account) : Type 0 where
   pub rest : List Entry
   pub seen : s.seen ++ later ≡ x.seen ++ rest
   pub noted : x.noted ≡ own c later
   pub hand : hand_among c t.pairs ≡ hand x
+  pub settled : (b : ℕ) → class_of x b ≢ 0 → class_of t b ≡ class_of x b
 
 -- The account of the plain book that passes were handed into, where the former book had s. Its history is the former one followed by all
--- records, by ticket; and of the rest only pairs and classes change.
+-- records, by ticket; and of the rest only pairs and classes change, and no class that a block had.
 pub record HandsIn {V : Type 0} (s : Account) (passes : List (Pass V)) (t : Account) : Type 0 where
   pub later : List Entry
   pub after : t ≡ record s { seen = s.seen ++ later; noted = own s.caller (s.seen ++ later); pairs = t.pairs; settled = t.settled }
   pub lawful : AreLawful s.profile opening (s.seen ++ later)
   pub below : All (λ e. e.caller < s.profile.callers) later
+  pub classes : (b : ℕ) → class_of s b ≢ 0 → class_of t b ≡ class_of s b
   pub each : (c : ℕ) (x : Pass V) → slice_get passes c ≡ Some x → IsPassOf s later t c (pass_account x)

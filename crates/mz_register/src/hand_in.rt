@@ -148,12 +148,12 @@ impl<V: Keep + Drop> Register<V> {
             profile,
             mut history,
             mut quanta,
+            mut classes,
             site,
         } = opening;
         write(&mut history, &mut quanta, records.as_slice(), more);
         let Rest {
             caller,
-            mut classes,
             mut slots,
             holds,
             founds,

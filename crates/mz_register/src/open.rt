@@ -130,6 +130,7 @@ impl<V: Keep + Drop> Register<V> {
             profile,
             history,
             quanta,
+            classes,
             site,
         };
         match Table::new(alloc, words.as_slice(), slots, &opening) {
@@ -140,7 +141,6 @@ impl<V: Keep + Drop> Register<V> {
                     keepers,
                     rest: Rest {
                         caller,
-                        classes,
                         slots: lights,
                         holds,
                         founds,
@@ -165,6 +165,7 @@ impl<V: Keep + Drop> Register<V> {
                     profile,
                     history,
                     quanta,
+                    classes,
                     site,
                 } = opening;
                 Err(Parts {

@@ -14,12 +14,10 @@ use mz_desk::view::{Opening, View};
 use mz_events::Keep;
 use std::alloc::Global;
 
-/// What else of the plain book waits for `hand_in`. `classes` and `slots` are the words as they were at the opening, in whose room they
-/// are handed in.
+/// What else of the plain book waits for `hand_in`. `slots` are the words as they were at the opening, in whose room they are handed in.
 #[derive(Drop)]
 pub struct Rest {
     pub(crate) caller: u32,
-    pub(crate) classes: Vec<u64>,
     pub(crate) slots: Vec<u64>,
     pub(crate) holds: u64,
     pub(crate) founds: u64,
@@ -41,9 +39,10 @@ pub struct Register<V: Keep + Drop> {
     ghost profile: { table.shared.key.profile ≡ opening.profile },
     ghost history: { table.shared.key.history.items ≡ opening.history.items } by { Coded-set entries_code table.shared.key.history.items opening.history.items },
     ghost quanta: { table.shared.key.quanta.items ≡ opening.quanta.items },
+    ghost classes: { table.shared.key.classes.items ≡ opening.classes.items },
     ghost site: { ∥ table.shared.key.site ≡ opening.site ∥₁ },
     ghost caller: { rest.caller < opening.profile.callers },
     ghost quantum_count: { length opening.quanta.items ≡ opening.profile.pages * 1024 },
-    ghost class_count: { length rest.classes.items ≡ opening.profile.nano },
+    ghost class_count: { length opening.classes.items ≡ opening.profile.nano },
     ghost slot_count: { length rest.slots.items ≡ opening.profile.nano * 1024 },
 }

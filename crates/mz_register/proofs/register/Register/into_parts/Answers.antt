@@ -27,7 +27,7 @@ use Rattle.mz_register.specs.Merged.{CanWrite}
 use Rattle.mz_register.specs.HandIn.{former, IsIdleOf, IsPassOf, HandsIn}
 use Rattle.mz_register.proofs.CountLemmas.{all_noted}
 use Rattle.mz_register.proofs.JoinLemmas.{its_held}
-use Rattle.mz_register.proofs.HandInLemmas.{all_in, each_end, each_noted}
+use Rattle.mz_register.proofs.HandInLemmas.{some_below, all_in, each_end, each_noted}
 use Rattle.mz_register.proofs.WriteLemmas.{can_write}
 use Rattle.mz_register.proofs.FitLemmas.{Comes, fits, none_held, spare_none}
 use Rattle.mz_register.proofs.AtEnd.{last, at_end}
@@ -120,7 +120,7 @@ module _ (g : given.Over) (c : goal.After-drop-records g) where
   idle0 : IsIdleOf r.table.shared.table_id p 0 (pass_account c.join_all-seat.ensures.first)
   idle0 = c.requires.all.each 0 c.join_all-seat.ensures.first (ap (λ ps. slice_get ps 0) c.join_all-seat.ensures.all)
 
-  came : Comes keeping x before quanta end words homes e
+  came : Comes keeping x before quanta r.opening.classes.items end words homes e
   came = record {
     limits = r.limits;
     caller = r.caller;
@@ -136,8 +136,8 @@ module _ (g : given.Over) (c : goal.After-drop-records g) where
     held_room = let k = c.join_all-seat.ensures.first.room in let q = ap keeper_count idle0.of.profile in let h = ap (λ (v : Vec ℕ Global). vec_capacity v) c.join_all-seat.ensures.held_is in omega arith;
     keepers = let l = c.take_keepers.ensures.len in let z = c.close-closed.ensures.slots in let s = r.slots in omega (arith, c.take_keepers.result.ok.0);
     same = λ k y h. ap (λ ks. get_elem? ks k) c.take_keepers.ensures.items ∙ c.close-closed.ensures.same k y h;
-    class_count = let l = c.read_words.ensures.len in let n = r.class_count in omega (arith, c.read_words.new.row.ok.0, r.rest.classes.ok.0);
-    classes = λ i l. c.read_words.ensures.each i (let n = r.class_count in omega (arith, r.rest.classes.ok.0)) ∙ ap (λ (k : ℕ). get_or words (k + 1 + i) 0) r.count;
+    class_count = let l = c.read_words.ensures.len in let n = r.class_count in omega (arith, c.read_words.new.row.ok.0, r.opening.classes.ok.0);
+    classes = λ i l. c.read_words.ensures.each i (let n = r.class_count in omega (arith, r.opening.classes.ok.0)) ∙ ap (λ (k : ℕ). get_or words (k + 1 + i) 0) r.count;
     slot_count = let l = c.read_words-2.ensures.len in let n = r.slot_count in omega (arith, c.read_words-2.new.row.ok.0, r.rest.slots.ok.0);
     slots = λ i l. c.read_words-2.ensures.each i (let n = r.slot_count in omega (arith, r.rest.slots.ok.0)) ∙ ap (λ (k : ℕ). get_or words (k + 1 + p.nano + i) 0) r.count;
   }
@@ -158,6 +158,11 @@ module _ (g : given.Over) (c : goal.After-drop-records g) where
         seen = d.seen;
         noted = d.noted_is;
         hand = ap (hand_among k) told_now ∙ (c.owners_after_entries.ensures.hands k (pairs_told quanta before) e.later ∙ (sym d.hand ∙ ap (λ (n : ℕ). hand_among n y.seat.me.0.pairs) (sym o)));
+        settled = λ b n.
+            let s = some_below y.seat.me.0.settled b n in
+            let q = y.rested.sized ∙ ap (λ (u : Profile). u.nano) (c.requires.all.each k y at).of.profile in
+            let l : b < p.nano = omega arith in
+            came.classes b l ∙ d.settled b l n;
       }
 
   hands : HandsIn (former keeping r) passes t
@@ -173,20 +178,25 @@ module _ (g : given.Over) (c : goal.After-drop-records g) where
       seen = written.0 i;
       noted = own r.rest.caller (written.0 i);
       pairs = pairs_told x.quanta.items x.history.items;
-      spare = spare_none keeping x before quanta end words homes e came i;
+      spare = spare_none keeping x before quanta r.opening.classes.items end words homes e came i;
       holds = r.rest.holds;
-      lights = none_held keeping x before quanta end words homes e came i;
+      lights = none_held keeping x before quanta r.opening.classes.items end words homes e came i;
       settled = x.classes.items;
       founds = r.rest.founds;
       found = r.rest.found;
     };
     lawful = e.lawful;
     below = e.below;
+    classes = λ b n.
+        let s = some_below r.opening.classes.items b n in
+        let q = r.class_count in
+        let l : b < p.nano = omega (arith, r.opening.classes.ok.0) in
+        came.classes b l ∙ e.classes.stays b l n;
     each = each;
   }
 
 pub returns-clause-fit : goal.returns-clause-fit
-returns-clause-fit g c = fits (keeping g c) (x g c) (before g c) (quanta g c) (end g c) (words g c) (homes g c) (e g c) (came g c)
+returns-clause-fit g c = fits (keeping g c) (x g c) (before g c) (quanta g c) (r g c).opening.classes.items (end g c) (words g c) (homes g c) (e g c) (came g c)
 
 pub returns-clause-account : goal.returns-clause-account
 returns-clause-account g c = hands g c

@@ -20,7 +20,7 @@ use Rattle.mz_register.proofs.register.Register.of_parts.Goals as goal
 pub new-requires : goal.new-requires
 new-requires g c =
     let x = c.args.parts in
-    c.open.ensures (opened_as g.V.Keep.keeping (record { profile = x.profile; history = x.history; quanta = x.quanta; site = x.site })) c.as_slice.result.now x.keepers.items
+    c.open.ensures (opened_as g.V.Keep.keeping (record { profile = x.profile; history = x.history; quanta = x.quanta; classes = x.classes; site = x.site })) c.as_slice.result.now x.keepers.items
     (can_open g.V.Keep.keeping x c.requires c.as_slice.result.now (c.as_slice.ensures.value ∙ c.in-Ok.ensures))
 
 pub invariant_of-register-clause-limits : goal.invariant_of-register-clause-limits
@@ -53,6 +53,9 @@ invariant_of-register-clause-history g c = ap (λ (o : Opening g.row.V.Denot). o
 pub invariant_of-register-clause-quanta : goal.invariant_of-register-clause-quanta
 invariant_of-register-clause-quanta g c = ap (λ (o : Opening g.row.V.Denot). o.quanta.items) c.in-Ok-new.ensures.ok.5
 
+pub invariant_of-register-clause-classes : goal.invariant_of-register-clause-classes
+invariant_of-register-clause-classes g c = ap (λ (o : Opening g.row.V.Denot). o.classes.items) c.in-Ok-new.ensures.ok.5
+
 pub invariant_of-register-clause-site : goal.invariant_of-register-clause-site
 invariant_of-register-clause-site g c = ∣ ap (λ (o : Opening g.row.V.Denot). o.site) c.in-Ok-new.ensures.ok.5 ∣₁
 
@@ -71,7 +74,7 @@ invariant_of-register-clause-slot_count g c = c.requires.slot_count
 pub invariant_of-first-clause-rested : goal.invariant_of-first-clause-rested
 invariant_of-first-clause-rested g c =
     let x = c.args.parts in
-    let key = opened_as g.V.Keep.keeping (record { profile = x.profile; history = x.history; quanta = x.quanta; site = x.site }) in
+    let key = opened_as g.V.Keep.keeping (record { profile = x.profile; history = x.history; quanta = x.quanta; classes = x.classes; site = x.site }) in
     subst (λ (hs : List ℕ). IsRested c.in-Ok-new.seat.me.0 0 c.new-in-Ok-new.result.items hs) (sym c.requires.held) (subst (λ (es : List Entry). IsRested c.in-Ok-new.seat.me.0 0 es []) (sym c.new-in-Ok-new.ensures.items)
     (subst (λ (m : Seated g.row.V.Denot). IsRested m.0 0 [] []) (sym c.in-Ok-new.ensures.ok.4) (first_rested key)))
 

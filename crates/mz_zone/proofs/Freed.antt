@@ -123,7 +123,7 @@ in_bounds n h (k ∷ ks) (inl q) e =
 in_bounds n h (k ∷ ks) (inr i) e = in_bounds n h ks i (and_parts (nat_lt k.block n && nat_lt k.slot 1024) (hand_ok n ks) e).1
 
 -- a block of nano is handed in, where nano is there
-module _ (s : Account) (nano : Nano) (a : NanoSeat) (p : Profile) (z : ℕ) (x : SlotView) (can : CanCall (with_seat s nano a) p z 3) (placed : IsPlaced x) (handed : IsHandedIn (with_seat s nano a) (of_slot x)) where
+module _ (s : Account) (nano : Nano) (a : NanoSeat) (p : Profile) (z : ℕ) (x : SlotView) (can : CanCall (with_seat s nano a) p z 3) (placed : IsPlaced x) (handed : IsHandedIn (with_seat s nano a) (of_slot x)) (zero : IsTrue (is_open (state_of s) 0)) where
   below : x.block < s.profile.nano
   below =
       let key : a.seat.me.0.geometry ≡ nano.table.shared.key = can.nano.seat.0.1 in
@@ -133,7 +133,7 @@ module _ (s : Account) (nano : Nano) (a : NanoSeat) (p : Profile) (z : ℕ) (x :
   pub can_note_handed : CanNoteSlot s x
   can_note_handed = record {
     nothing_held = can.serve.nothing_held;
-    zone_open = handed.zone_open;
+    zone_open = zero;
     room = let r : 3 ≤ s.spare = can.serve.room in omega arith;
     placed = placed;
     base = handed.slot.0 ∙ can.nano.first;
@@ -144,7 +144,7 @@ module _ (s : Account) (nano : Nano) (a : NanoSeat) (p : Profile) (z : ℕ) (x :
   handed_in_hand = subst (λ n. has_block (hand s) (block_at x.span.first n) ≡ true) placed.size handed.in_hand
 
 -- the same, where nano stands behind references
-module _ (s : Account) (refs : Option (Bor Nano × MutBor NanoSeat)) (both : Bor Nano × MutBor NanoSeat) (is : refs ≡ Some both) (p : Profile) (z : ℕ) (x : SlotView) (can : CanCall (record { book = s; nano = seated refs }) p z 3) (placed : IsPlaced x) (handed : IsHandedIn (record { book = s; nano = seated refs }) (of_slot x)) where
+module _ (s : Account) (refs : Option (Bor Nano × MutBor NanoSeat)) (both : Bor Nano × MutBor NanoSeat) (is : refs ≡ Some both) (p : Profile) (z : ℕ) (x : SlotView) (can : CanCall (record { book = s; nano = seated refs }) p z 3) (placed : IsPlaced x) (handed : IsHandedIn (record { book = s; nano = seated refs }) (of_slot x)) (zero : IsTrue (is_open (state_of s) 0)) where
   can_there : CanCall (with_seat s both.0.now both.1.now) p z 3
   can_there = subst (λ r. CanCall (record { book = s; nano = seated r }) p z 3) is can
 
@@ -152,10 +152,10 @@ module _ (s : Account) (refs : Option (Bor Nano × MutBor NanoSeat)) (both : Bor
   handed_there = subst (λ r. IsHandedIn (record { book = s; nano = seated r }) (of_slot x)) is handed
 
   pub may_end : CanNoteSlot s x
-  may_end = can_note_handed s both.0.now both.1.now p z x can_there placed handed_there
+  may_end = can_note_handed s both.0.now both.1.now p z x can_there placed handed_there zero
 
   pub may_end_hand : IsTrue (has_block (hand s) (block_at x.span.first (16 * x.class)))
-  may_end_hand = handed_in_hand s both.0.now both.1.now p z x can_there placed handed_there
+  may_end_hand = handed_in_hand s both.0.now both.1.now p z x can_there placed handed_there zero
 
   pub may_put_back : SitsAt both.0.now both.1.now × In (held_of x) (hand_of both.1.now) × ((x.span.space ≡ space_of both.0.now) × (x.base ≡ first_of both.0.now))
   may_put_back = (can_there.nano.seat, handed_there.slot.1, (handed_there.space ∙ sym can_there.nano.space, handed_there.slot.0))
@@ -177,7 +177,7 @@ page_above : (p : Profile) (b a : ℕ) → page_of a ≡ page_of_block p b → n
 page_above p b a e = omega (arith, e)
 
 -- a block of nano that another zone was handed is denied
-module _ (laws : ZoneLaws) (v : AtView) (p : Profile) (z : ℕ) (x : SlotView) (can : CanCall v p z 3) (below : z < p.zones) (other : z ≢ 0) (placed : IsPlaced x) (handed : IsHandedIn v (of_slot x)) where
+module _ (laws : ZoneLaws) (v : AtView) (p : Profile) (z : ℕ) (x : SlotView) (can : CanCall v p z 3) (below : z < p.zones) (other : z ≢ 0) (placed : IsPlaced x) (handed : IsHandedIn v (of_slot x)) (zero : IsTrue (is_open (state_of v.book) 0)) where
   abbrev denial : Event
   denial = No place.Nano z x.span.first (16 * x.class)
 
@@ -195,7 +195,7 @@ module _ (laws : ZoneLaws) (v : AtView) (p : Profile) (z : ℕ) (x : SlotView) (
       zone = subst (λ (q : Profile). z < q.zones) (sym can.serve.profile) below;
       zone_open = can.serve.zone_open;
       of_another = other;
-      nano_open = handed.zone_open;
+      nano_open = zero;
     };
   }
 

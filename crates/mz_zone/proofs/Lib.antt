@@ -1,4 +1,5 @@
 pub mod Going
+mod ZoneZero
 pub mod SlotArithmetic
 pub mod NanoMaking
 pub mod Serving

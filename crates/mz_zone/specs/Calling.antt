@@ -6,8 +6,7 @@ use Rattle.mz_base.specs.declared.profile.Profile.{Profile}
 use Rattle.mz_base.specs.Lists.{has_block}
 use Rattle.mz_events.specs.declared.entry.Entry.{Entry}
 use Rattle.mz_events.specs.Places.{nano_start}
-use Rattle.mz_events.specs.State.{is_open}
-use Rattle.mz_book.specs.Account.{Account, HoldsNothing, hand, state_of}
+use Rattle.mz_book.specs.Account.{Account, HoldsNothing, hand}
 use Rattle.mz_book.specs.Growth.{Adds}
 use Rattle.mz_rack.specs.Serving.{CanServe}
 use Rattle.mz_nano.specs.declared.nano.Nano.{Nano}
@@ -78,11 +77,9 @@ abbrev pub HasSlot : Option Seated → ℕ → Option Held → Type 0
 HasSlot nano base None = Unit {0}
 HasSlot nano base (Some h) = IsInSeat nano base h
 
--- The block is handed in: it is in the book's hand, its bytes are of the book's space, and its zone is open. A slot of nano is in the seat's
--- hand too.
+-- The block is handed in: it is in the book's hand, and its bytes are of the book's space. A slot of nano is in the seat's hand too.
 pub record IsHandedIn (v : AtView) (b : BlockView) : Type 0 where
   pub in_hand : IsTrue (has_block (hand v.book) (block_of b))
-  pub zone_open : IsTrue (is_open (state_of v.book) b.zone)
   pub space : b.span.space ≡ v.book.site
   pub slot : HasSlot v.nano b.base b.slot
 

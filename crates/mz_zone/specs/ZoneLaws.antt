@@ -17,9 +17,9 @@ use Rattle.mz_events.specs.declared.event.Event.TheVariants.{New, End}
 use Rattle.mz_events.specs.declared.entry.Entry.{Entry}
 use Rattle.mz_events.specs.declared.place.Place.TheVariants.{Nano}
 use Rattle.mz_events.specs.Places.{Spot}
-use Rattle.mz_events.specs.State.{State, opening, value_at}
+use Rattle.mz_events.specs.State.{State, opening, value_at, is_open}
 use Rattle.mz_events.specs.Effect.{touches, after, value_after}
-use Rattle.mz_events.specs.History.{AreLawful}
+use Rattle.mz_events.specs.History.{AreLawful, after_all}
 use Rattle.mz_events.specs.Holding.{changes_zones}
 use Rattle.mz_record.specs.Bytes.{Bytes, fresh, kept_in_place, is_shown_as}
 use Rattle.mz_record.specs.Moments.{state_at}
@@ -52,5 +52,6 @@ pub record ZoneLaws : Type 0 where
   pub good_size : (n : ℕ) → IsLeastSize (route_of n) n (good_size_of n)
   pub best : (cached : List Run) (w : ℕ) (r : Run) → (best_fit cached w ≡ Some r) ↔ IsBestFit cached w r
   pub through : (c : ℕ) (pairs : List Pair) (es : List Entry) → hand_among c (pairs_through c pairs es) ≡ hand_through (hand_among c pairs) es
+  pub zero_open : (p : Profile) (entries : List Entry) → AreLawful p opening entries → IsTrue (is_open (after_all p opening entries) 0)
   pub hand_served : (p : Profile) (h : List Entry) (q : Request) (es : List Entry) (got : Option Block) (hand : List Block) → IsServed p h q es got → hand_through hand es ≡ hand ++ option_to_list got
   pub hand_dropped : (p : Profile) (h : List Entry) (b : Block) (es : List Entry) (hand : List Block) → IsDropped p h b es → hand_through hand es ≡ drop_block b hand

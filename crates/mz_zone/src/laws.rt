@@ -1,11 +1,16 @@
 //! The laws on which the calls of a zone rest.
 
+ghost use Rattle.std.specs.Prelude.{List, IsTrue};
+ghost use Rattle.mz_base.specs.declared.profile.Profile.{Profile};
+ghost use Rattle.mz_events.specs.declared.entry.Entry.{Entry as entry};
+ghost use Rattle.mz_events.specs.State.{opening, is_open};
+ghost use Rattle.mz_events.specs.History.{AreLawful, after_all};
 ghost use Rattle.mz_book.specs.Account.{IsOrderly};
 ghost use Rattle.mz_zone.specs.ZoneLaws.{ZoneLaws};
 
 use mz_book::Book;
 use mz_book::laws::{growth, hands, slots};
-use mz_events::laws::{entries, holding};
+use mz_events::laws::{entries, events, holding};
 use mz_rack::Keeper;
 
 /// They hold, all together.
@@ -26,6 +31,15 @@ pub(crate) fn of_zones()
     mz_record::laws::bytes_are_kept();
     mz_base::laws::good_size_is_least();
     mz_events::laws::best_fits();
+    zone_zero_stays_open();
+}
+
+// Zone 0, of which all of nano is, is open from the first entry on, and never shuts.
+fn zone_zero_stays_open()
+    ensures { (p : Profile) (entries : List entry) → AreLawful p opening entries → IsTrue (is_open (after_all p opening entries) 0) }
+{
+    events::when_an_event_fits();
+    entries::zones_after_an_event();
 }
 
 /// What holds of every book.

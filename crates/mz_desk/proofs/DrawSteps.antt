@@ -47,7 +47,7 @@ use Rattle.mz_desk.specs.Rule.{all_of, state_after, AtHome, LeavesAlone, IsAlone
 use Rattle.mz_desk.specs.Needs.{Seated, CanDraw}
 use Rattle.mz_desk.specs.Steps.{Draws}
 use Rattle.mz_desk.proofs.ListLemmas.{or_either, set_there, at_length, some_below}
-use Rattle.mz_desk.proofs.Frames.{settled_stay, known_stay, other_word, lock_owner, taken_stays}
+use Rattle.mz_desk.proofs.Frames.{settled_stay, known_stay, told_stays, other_word, lock_owner, taken_stays}
 use Rattle.mz_desk.proofs.Knowing.{owners_append, owners_part, owners_set, history_few, knows_all}
 use Rattle.mz_desk.proofs.PairLemmas.{NoneOf, none_by_seat, hand_tail, after_tail, others_after, callers_after}
 
@@ -560,6 +560,7 @@ module _ {V : Type 0} (keeping : V → Keeping) (key : Opened) (L : DeskLaws) (i
     hands = drawn_hands;
     lights = drawn_lights;
     classes = drawn_classes;
+    told = told_stays key s.words words' s.views id v w (λ b l. class_same b) at live refl refl kept.told;
   }
 
   no_wrap : n + 1 < 2 ^ 64

@@ -1,5 +1,5 @@
 -- Once seat 0 took in all others and holds nothing, no lock and no light is held.
-use Rattle.std.proofs.Common.{◌≡◌, ℕ, ◌<◌, ◌≤◌, ◌==◌, true, false, List, [], ◌∷◌, ◌++◌, length, Option, refl, sym, ap, ◌∙◌, subst, arith, ⊎_elim, zero, suc, append-nil}
+use Rattle.std.proofs.Common.{◌≡◌, ℕ, ◌<◌, ◌≤◌, ◌==◌, true, false, List, [], ◌∷◌, ◌++◌, length, get_or, Option, refl, sym, ap, ◌∙◌, subst, arith, inl, inr, ⊎_elim, zero, suc, append-nil}
 use Rattle.std.specs.Prelude.{◌||◌}
 use Rattle.std.specs.List.{All, list_any}
 use Rattle.std.proofs.lemmas.List.Elements.{All-head, All-tail, All-weaker}
@@ -18,10 +18,10 @@ use Rattle.mz_book.specs.Pairs.{hand_among, owners}
 use Rattle.mz_book.specs.Lights.{is_slot_live, has_light, light_at}
 use Rattle.mz_desk.specs.declared.view.TakenIn.{TakenIn}
 use Rattle.mz_desk.specs.declared.view.View.{View}
-use Rattle.mz_desk.specs.Words.{lock_word, light_word}
-use Rattle.mz_desk.specs.Views.{Opened, has_lock, all_pairs}
+use Rattle.mz_desk.specs.Words.{lock_word, class_word, light_word}
+use Rattle.mz_desk.specs.Views.{Opened, has_lock, knows_class, all_pairs}
 use Rattle.mz_desk.specs.Ending.{TookAll, Ended}
-use Rattle.mz_desk.specs.Rule.{state_after, AtHome, SeatKeeps, LockOwner, LightOwner, IsSpent, IsTaken, Kept}
+use Rattle.mz_desk.specs.Rule.{state_after, AtHome, SeatKeeps, LockOwner, LightOwner, IsSpent, IsTaken, IsKnown, Kept}
 use Rattle.mz_desk.proofs.ListLemmas.{at_length, or_either}
 
 -- a seat that was taken in is spent
@@ -105,4 +105,8 @@ module _ {V : Type 0} (keeping : V → Keeping) (key : Opened) (s : table.State 
     home = home;
     lights = dark;
     classes = kept.classes;
+    told = λ b l n. ⊎_elim
+        (λ (t : class_word key.profile s.words b ≡ get_or key.classes b 0). inl t)
+        (λ (t : IsKnown s.views b (class_word key.profile s.words b)). inr (ap (λ (z : View). knows_class z b (class_word key.profile s.words b)) (sym (only t.seat t.view t.at t.live)) ∙ t.knows))
+        (kept.told b l n);
   }

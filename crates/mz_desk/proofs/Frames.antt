@@ -1,7 +1,7 @@
 -- What a step of one seat leaves as it was, where it adds no entry: rely and guarantee, by one word and one place at a time.
 use Rattle.std.proofs.Common.{◌≡◌, ◌≢◌, ℕ, ◌+◌, ◌*◌, ◌<◌, ◌≤◌, ◌==◌, Bool, true, false, ◌⊎◌, List, [], ◌∷◌, ◌++◌, length, get_or, set, Option, Some, None, refl, sym, ap, ◌∙◌, subst, arith, inl, inr, ⊎_elim, length-set}
 use Rattle.std.specs.Prelude.{◌||◌}
-use Rattle.std.specs.List.{All}
+use Rattle.std.specs.List.{All, list_any}
 use Rattle.std.proofs.lemmas.List.{get_or-set_other}
 use Rattle.std.proofs.lemmas.List.Elements.{All-weaker}
 use Rattle.std.proofs.lemmas.Bool.{cases_eq}
@@ -22,8 +22,8 @@ use Rattle.mz_book.specs.Lights.{slot_size, has_slot, is_slot_live, has_light, l
 use Rattle.mz_desk.specs.declared.view.TakenIn.{TakenIn}
 use Rattle.mz_desk.specs.declared.view.View.{View}
 use Rattle.mz_desk.specs.Words.{lock_word, class_word, light_word, lock_place, class_place, slot_place}
-use Rattle.mz_desk.specs.Views.{Opened, has_lock, all_pairs}
-use Rattle.mz_desk.specs.Rule.{state_after, AreSettled, Homes, AtHome, SeatKeeps, LockOwner, LightOwner, IsSpent, IsTaken, LocksKeep, HandsKeep, LightsKeep, ClassesKeep, Kept}
+use Rattle.mz_desk.specs.Views.{Opened, has_lock, knows_class, all_pairs}
+use Rattle.mz_desk.specs.Rule.{state_after, AreSettled, AreTold, IsKnown, Homes, AtHome, SeatKeeps, LockOwner, LightOwner, IsSpent, IsTaken, LocksKeep, HandsKeep, LightsKeep, ClassesKeep, Kept}
 use Rattle.mz_desk.proofs.ListLemmas.{set_there, some_below}
 
 -- classes that are the words stay so, where no class that a block has changes
@@ -106,6 +106,23 @@ light_owner p st words words' views id v w b j same at live more pairs o = ⊎_e
     (λ (n : o.seat ≡ id → ⊥). record { seat = o.seat; view = o.view; at = set_else views id o.seat w n ∙ o.at; live = o.live; is = same ∙ o.is; has_it = o.has_it; mine = o.mine })
     (cases_eq o.seat id)
 
+pub known_moves : (views : List View) (id : ℕ) (v w : View) (b class : ℕ) → get_elem? views id ≡ m.some v → w.live ≡ true → (knows_class v b class ≡ true → knows_class w b class ≡ true) → IsKnown views b class → IsKnown (set views id w) b class
+known_moves views id v w b class at live more o = ⊎_elim
+    (λ (e : o.seat ≡ id).
+    let vs : v ≡ o.view = some-injective v o.view (sym at ∙ (ap (get_elem? views) (sym e) ∙ o.at)) in
+    record { seat = id; view = w; at = set_there views id v w at; live = live; knows = more (ap (λ (z : View). knows_class z b class) vs ∙ o.knows) })
+    (λ (n : o.seat ≡ id → ⊥). record { seat = o.seat; view = o.view; at = set_else views id o.seat w n ∙ o.at; live = o.live; knows = o.knows })
+    (cases_eq o.seat id)
+
+pub told_stays : (key : Opened) (words words' : List ℕ) (views : List View) (id : ℕ) (v w : View) → ((b : ℕ) → b < key.profile.nano → class_word key.profile words' b ≡ class_word key.profile words b) → get_elem? views id ≡ m.some v → w.live ≡ true
+    → w.settled ≡ v.settled → w.joined ≡ v.joined → AreTold key words views → AreTold key words' (set views id w)
+told_stays key words words' views id v w same at live settled joined h b l n =
+    let e = same b l in
+    let old : ℕ = class_word key.profile words b in
+    let more : knows_class v b old ≡ true → knows_class w b old ≡ true = λ y. ap (λ (xs : List ℕ). (get_or xs b 0 == old) || list_any (λ x. get_or x.settled b 0 == old) w.joined) settled ∙ (ap (λ (ts : List TakenIn). (get_or v.settled b 0 == old) || list_any (λ x. get_or x.settled b 0 == old) ts) joined ∙ y) in
+    subst (λ (c : ℕ). (c ≡ get_or key.classes b 0) ⊎ IsKnown (set views id w) b c) (sym e)
+    (⊎_elim (λ (t : old ≡ get_or key.classes b 0). inl t) (λ (t : IsKnown views b old). inr (known_moves views id v w b old at live more t)) (h b l (λ z. n (e ∙ z))))
+
 -- the pairs of all seats are the same, where those of one are
 
 pub all_pairs_same : (views : List View) (id : ℕ) (v w : View) → get_elem? views id ≡ m.some v → w.pairs ≡ v.pairs → all_pairs (set views id w) ≡ all_pairs views
@@ -157,8 +174,9 @@ pub moves : {V : Type 0} (keeping : V → Keeping) (key : Opened) (s : table.Sta
     → LocksKeep keeping key (state_after key later) words' homes' (set s.views id w)
     → LightsKeep key.profile (state_after key later) words' (set s.views id w)
     → ClassesKeep key (state_after key later) words'
+    → AreTold key words' (set s.views id w)
     → Kept keeping key record { words = words'; homes = homes'; views = set s.views id w } later
-moves keeping key s later id v w words' homes' kept at live same lw lh counter mine others locks lights classes =
+moves keeping key s later id v w words' homes' kept at live same lw lh counter mine others locks lights classes told =
     let n : length (set s.views id w) ≡ length s.views = length-set s.views id w in
     let h = kept.history in
     record {
@@ -175,6 +193,7 @@ moves keeping key s later id v w words' homes' kept at live same lw lh counter m
       hands = hands_same key (state_after key later) later s.views id v w at live same.3 same.0 same.1 same.2 kept.hands;
       lights = lights;
       classes = classes;
+      told = told;
     }
 
 -- one word changes

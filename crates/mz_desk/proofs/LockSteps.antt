@@ -31,7 +31,7 @@ use Rattle.mz_desk.specs.Rule.{all_of, state_after, Homes, LeavesAlone, IsAloneS
 use Rattle.mz_desk.specs.Needs.{Seated, CanLock, CanLook, CanFree}
 use Rattle.mz_desk.specs.Steps.{TriesLock, Looks, Frees}
 use Rattle.mz_desk.proofs.ListLemmas.{or_either, or_left, or_right, among_append, among_one, one_among, without_less, without_more, set_there, at_length}
-use Rattle.mz_desk.proofs.Frames.{known_stay, moves, lock_owner, lights_same, classes_same, other_word, locks_same, rely_same, home_else, light_not_lock, class_not_lock}
+use Rattle.mz_desk.proofs.Frames.{known_stay, told_stays, moves, lock_owner, lights_same, classes_same, other_word, locks_same, rely_same, home_else, light_not_lock, class_not_lock}
 use Rattle.mz_desk.proofs.Knowing.{owners_part, knows_all, away_less, held_less, since_less, timed_less}
 
 -- a seat that only notes a clash
@@ -48,7 +48,8 @@ module _ {V : Type 0} (keeping : V → Keeping) (key : Opened) (id : ℕ) (me : 
       (λ j ne. rely_same keeping key (state_after key later) s.words s.homes j)
       (locks_same keeping key (state_after key later) s.words s.words s.homes s.views id v w (λ k l. refl) at live refl refl kept.locks)
       (lights_same key.profile (state_after key later) s.words s.words s.views id v w (λ b j l k. refl) at live refl refl kept.lights)
-      kept.classes)
+      kept.classes
+      (told_stays key s.words s.words s.views id v w (λ b l. refl) at live refl refl kept.told))
 
   locks_hit : (k : ℕ) → CanLock me.0 k → (s : table.State (Option V) View) (later : List Entry) → Kept keeping key s later → get_elem? s.views id ≡ m.some me.0 → lock_word s.words k ≡ 0
       → Kept keeping key (stepped s (k + 1) (me.0.caller + 1) id me.1 (locked me.0 k (length (all_of key later))) keeps) later
@@ -111,6 +112,7 @@ module _ {V : Type 0} (keeping : V → Keeping) (key : Opened) (id : ℕ) (me : 
       }
       (lights_same p (state_after key later) s.words words' s.views id v w (λ b j lb lj. dark b j) at live refl refl kept.lights)
       (classes_same key (state_after key later) s.words words' (λ b l. class b) kept.classes)
+      (told_stays key s.words words' s.views id v w (λ b l. class b) at live refl refl kept.told)
 
   locks_miss : (k : ℕ) → CanLock me.0 k → (s : table.State (Option V) View) (later : List Entry) → Kept keeping key s later → get_elem? s.views id ≡ m.some me.0 → lock_word s.words k ≢ 0 → lock_word s.words k ≢ me.0.caller + 1
   locks_miss k can s later kept at some' e =
@@ -200,6 +202,7 @@ module _ {V : Type 0} (keeping : V → Keeping) (key : Opened) (L : DeskLaws) (i
       }
       (lights_same p (state_after key later) s.words s.words s.views id v w (λ b j lb lj. refl) at live refl refl kept.lights)
       kept.classes
+      (told_stays key s.words s.words s.views id v w (λ b l. refl) at live refl refl kept.told)
 
   pub looks : (slots k : ℕ) → CanLook me.0 k → Allows (Rule keeping key) slots id me 0 (λ n. n) (Looks keeping (step slots 0 0 0 m.none) me)
   looks slots k can s (later, kept) sized at small =
@@ -313,6 +316,7 @@ module _ {V : Type 0} (keeping : V → Keeping) (key : Opened) (L : DeskLaws) (i
       }
       (lights_same p (state_after key later) s.words words' s.views id v w (λ b j lb lj. dark b j) at live refl refl kept.lights)
       (classes_same key (state_after key later) s.words words' (λ b l. class b) kept.classes)
+      (told_stays key s.words words' s.views id v w (λ b l. class b) at live refl refl kept.told)
 
   pub frees : (slots k : ℕ) (x : V) → CanFree keeping me k x → Allows (Rule keeping key) slots id me (k + 1) (λ n. 0) (λ n. Frees (step slots (k + 1) 0 0 m.none) me 0)
   frees slots k x can s (later, kept) sized at small =

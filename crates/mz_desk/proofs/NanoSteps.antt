@@ -1,5 +1,7 @@
 -- The steps on the words of nano: take-light, store-light and settle-class.
 use Rattle.std.proofs.Common.{◌≡◌, ◌≢◌, ℕ, ◌+◌, ◌<◌, ◌≤◌, ◌==◌, Bool, true, false, not, ◌⊎◌, List, length, get_or, set, Option, refl, sym, ap, ◌∙◌, subst, arith, eq-eqb, inl, inr, ⊎_elim, length-set}
+use Rattle.std.specs.Prelude.{◌||◌}
+use Rattle.std.specs.List.{list_any}
 use Rattle.std.proofs.lemmas.List.{get_or-set_same, get_or-set_other}
 use Rattle.std.proofs.lemmas.List.Elements.{All-weaker}
 use Rattle.std.proofs.lemmas.Bool.{cases_eq, cases_Bool, and_parts, and_from, eqb-true, false≢true}
@@ -21,12 +23,12 @@ use Rattle.mz_book.specs.Lights.{slot_size, page_of_block, has_slot, is_slot_liv
 use Rattle.mz_desk.specs.declared.view.View.{View}
 use Rattle.mz_desk.specs.Laws.{DeskLaws}
 use Rattle.mz_desk.specs.Words.{lock_word, class_word, light_word, lock_place, class_place, slot_place}
-use Rattle.mz_desk.specs.Views.{Opened, all_pairs, clashed, lit, unlit, knowing, settled_first}
-use Rattle.mz_desk.specs.Rule.{all_of, state_after, IsAloneSince, LightOwner, Kept, Rule}
+use Rattle.mz_desk.specs.Views.{Opened, knows_class, all_pairs, clashed, lit, unlit, knowing, settled_first}
+use Rattle.mz_desk.specs.Rule.{all_of, state_after, IsAloneSince, LightOwner, IsKnown, Kept, Rule}
 use Rattle.mz_desk.specs.Needs.{Seated, CanLight, CanUnlight, CanClass}
 use Rattle.mz_desk.specs.Steps.{TriesLight, StoresLight, TriesClass}
 use Rattle.mz_desk.proofs.ListLemmas.{or_either, or_left, or_right, set_there}
-use Rattle.mz_desk.proofs.Frames.{settled_stay, known_stay, moves, light_owner, lights_same, classes_same, other_word, locks_same, light_not_lock, class_not_lock, light_not_class}
+use Rattle.mz_desk.proofs.Frames.{settled_stay, known_stay, known_moves, told_stays, moves, light_owner, lights_same, classes_same, other_word, locks_same, light_not_lock, class_not_lock, light_not_class}
 use Rattle.mz_desk.proofs.Knowing.{slot_part}
 use Rattle.mz_desk.proofs.LockSteps.{clash_kept}
 
@@ -143,6 +145,7 @@ module _ {V : Type 0} (keeping : V → Keeping) (key : Opened) (L : DeskLaws) (i
             (cases_eq (slot_place p c k) (slot_place p b j));
       }
       (classes_same key st s.words words' class kept.classes)
+      (told_stays key s.words words' s.views id v w class at live refl refl kept.told)
 
   pub lights : (slots b j expect : ℕ) → CanLight me.0 b j expect → Allows (Rule keeping key) slots id me (slot_place me.0.profile b j) (λ n. either (n == expect) (2 + me.0.caller) n) (TriesLight b j (step slots (slot_place me.0.profile b j) expect (2 + me.0.caller) m.none) me)
   lights slots b j expect can s (later, kept) sized at small =
@@ -290,6 +293,7 @@ module _ {V : Type 0} (keeping : V → Keeping) (key : Opened) (L : DeskLaws) (i
             (cases_eq (slot_place p c k) (slot_place p b j));
       }
       (classes_same key st s.words words' class kept.classes)
+      (told_stays key s.words words' s.views id v w class at live refl refl kept.told)
 
   pub stores : (slots b j word : ℕ) → CanUnlight me.0 b j word → Allows (Rule keeping key) slots id me (slot_place me.0.profile b j) (λ n. word) (λ n. StoresLight b j (step slots (slot_place me.0.profile b j) word 0 m.none) me word)
   stores slots b j word can s (later, kept) sized at small =
@@ -376,6 +380,25 @@ module _ {V : Type 0} (keeping : V → Keeping) (key : Opened) (L : DeskLaws) (i
             (cases_eq (class_word p s.words c) 0);
         stays = settled_stay p s.words words' key.classes (λ c l d. stay c d) kept.classes.stays;
       }
+      (λ c l d. ⊎_elim
+      (λ (t : c ≡ b).
+      let c_is : class_word p words' c ≡ class = ap (class_word p words') t ∙ now in
+      let here : get_or w.settled c 0 ≡ class_word p words' c = ap (λ (x : ℕ). get_or (set v.settled b class) x 0) t ∙ (get_or-set_same v.settled b class 0 (let z = f.sized in omega arith) ∙ sym c_is) in
+      inr record {
+        seat = id;
+        view = w;
+        at = set_there s.views id v w at;
+        live = live;
+        knows = or_left (get_or w.settled c 0 == class_word p words' c) (list_any (λ x. get_or x.settled c 0 == class_word p words' c) w.joined) (eq-eqb (get_or w.settled c 0) (class_word p words' c) here);
+      })
+      (λ (t : c ≡ b → ⊥).
+      let e : class_word p words' c ≡ class_word p s.words c = rest c t in
+      let old : ℕ = class_word p s.words c in
+      let stays_so : get_or w.settled c 0 ≡ get_or v.settled c 0 = get_or-set_other v.settled b c class 0 t in
+      let more : knows_class v c old ≡ true → knows_class w c old ≡ true = λ y. ap (λ (x : ℕ). (x == old) || list_any (λ q. get_or q.settled c 0 == old) v.joined) stays_so ∙ y in
+      subst (λ (x : ℕ). (x ≡ get_or key.classes c 0) ⊎ IsKnown (set s.views id w) c x) (sym e)
+      (⊎_elim (λ (z : old ≡ get_or key.classes c 0). inl z) (λ (z : IsKnown s.views c old). inr (known_moves s.views id v w c old at live more z)) (kept.told c l (λ z. d (e ∙ z)))))
+      (cases_eq c b))
 
   pub classes : (slots b class : ℕ) → CanClass me.0 b class → Allows (Rule keeping key) slots id me (class_place me.0.profile b) (λ n. either (n == 0) class n) (TriesClass b (step slots (class_place me.0.profile b) 0 class m.none) me)
   classes slots b class can s (later, kept) sized at small =

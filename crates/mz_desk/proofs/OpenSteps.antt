@@ -109,6 +109,7 @@ module _ {V : Type 0} (keeping : V → Keeping) (key : Opened) (ws : List ℕ) (
     };
     lights = record { each = λ b j lb lj. inl (can.lights b j lb lj ∙ ap (λ (t : State). one_for (is_slot_live p t b j)) (sym state_same)) };
     classes = subst (λ (t : State). Rattle.mz_desk.specs.Rule.ClassesKeep key t ws) (sym state_same) can.classes;
+    told = λ b l n. inl (can.told b l);
   }
 
   pub opens : Rule keeping key (table.opening ws ks (first_view key))

@@ -29,12 +29,12 @@ use Rattle.mz_book.specs.Account.{is_live}
 use Rattle.mz_desk.specs.declared.view.TakenIn.{TakenIn}
 use Rattle.mz_desk.specs.declared.view.View.{View}
 use Rattle.mz_desk.specs.Laws.{DeskLaws}
-use Rattle.mz_desk.specs.Words.{light_word}
-use Rattle.mz_desk.specs.Views.{Opened, has_lock, took_in, all_pairs, pairs_of, pairs_besides}
+use Rattle.mz_desk.specs.Words.{class_word, light_word}
+use Rattle.mz_desk.specs.Views.{Opened, has_lock, took_in, knows_class, all_pairs, pairs_of, pairs_besides}
 use Rattle.mz_desk.specs.Seats.{giver, given_view, joined_view, spent_view, CanGive, CanTakeIn}
-use Rattle.mz_desk.specs.Rule.{all_of, state_after, AreSettled, IsAloneSince, IsWhose, SeatKeeps, LightOwner, IsSpent, IsTaken, HandsKeep, LightsKeep, LocksKeep, Kept, Rule}
-use Rattle.mz_desk.proofs.ListLemmas.{or_left, or_right, set_there, at_length, snoc_at}
-use Rattle.mz_desk.proofs.Frames.{lock_owner, spent_stays}
+use Rattle.mz_desk.specs.Rule.{all_of, state_after, AreSettled, AreTold, IsKnown, IsAloneSince, IsWhose, SeatKeeps, LightOwner, IsSpent, IsTaken, HandsKeep, LightsKeep, LocksKeep, Kept, Rule}
+use Rattle.mz_desk.proofs.ListLemmas.{or_either, or_left, or_right, set_there, at_length, snoc_at}
+use Rattle.mz_desk.proofs.Frames.{lock_owner, spent_stays, told_stays}
 use Rattle.mz_desk.proofs.Knowing.{owners_append, owners_set, slot_append, hand_append}
 
 -- the pairs of one number, and those of the others
@@ -310,6 +310,10 @@ module _ {V : Type 0} (keeping : V → Keeping) (key : Opened) (L : DeskLaws) (i
         hands = split_hands;
         lights = split_lights;
         classes = kept.classes;
+        told = λ x l n. ⊎_elim
+            (λ (t : class_word p s.words x ≡ get_or key.classes x 0). inl t)
+            (λ (t : IsKnown views1 x (class_word p s.words x)). inr record { seat = t.seat; view = t.view; at = at_longer views1 (b ∷ []) t.seat t.view t.at; live = t.live; knows = t.knows })
+            (told_stays key s.words s.words s.views id v a (λ c d. refl) at can.live refl refl kept.told x l n);
       }
 
 pub splits : {V : Type 0} (keeping : V → Keeping) (key : Opened) (L : DeskLaws) (id : ℕ) (v : View) → CanGive v → Splits (Rule keeping key) id v (giver v) (given_view v)
@@ -488,6 +492,39 @@ module _ {V : Type 0} (keeping : V → Keeping) (key : Opened) (L : DeskLaws) (i
         (kept.lights.each b j lb lj);
   }
 
+  module _ (b c : ℕ) where
+    abbrev in_joined : List TakenIn → Bool
+    in_joined xs = list_any (λ x. get_or x.settled b 0 == c) xs
+
+    by_other : IsKnown s.views b c → knows_class w b c ≡ true → IsKnown viewsj b c
+    by_other o y =
+        let z : (get_or w.settled b 0 == c) ≡ true = ⊎_elim (λ (t : (get_or w.settled b 0 == c) ≡ true). t) (λ (t : in_joined w.joined ≡ true). absurd (false≢true (sym (ap in_joined can.none_joined) ∙ t))) (or_either (get_or w.settled b 0 == c) (in_joined w.joined) y) in
+        record { seat = id; view = both; at = both_at; live = can.live; knows = or_right (get_or v.settled b 0 == c) (in_joined both.joined) (or_left (get_or w.settled b 0 == c) (in_joined v.joined) z) }
+
+    by_first : knows_class v b c ≡ true → IsKnown viewsj b c
+    by_first y = record {
+      seat = id;
+      view = both;
+      at = both_at;
+      live = can.live;
+      knows = ⊎_elim
+          (λ (t : (get_or v.settled b 0 == c) ≡ true). or_left (get_or v.settled b 0 == c) (in_joined both.joined) t)
+          (λ (t : in_joined v.joined ≡ true). or_right (get_or v.settled b 0 == c) (in_joined both.joined) (or_right (get_or w.settled b 0 == c) (in_joined v.joined) t))
+          (or_either (get_or v.settled b 0 == c) (in_joined v.joined) y);
+    }
+
+    still_known : IsKnown s.views b c → IsKnown viewsj b c
+    still_known o = ⊎_elim
+        (λ (y : o.seat ≡ other). let wu : w ≡ o.view = some-injective w o.view (sym there ∙ (ap (get_elem? s.views) (sym y) ∙ o.at)) in by_other o (ap (λ (z : View). knows_class z b c) wu ∙ o.knows))
+        (λ (ne : o.seat ≡ other → ⊥). ⊎_elim
+        (λ (y : o.seat ≡ id). let vu : v ≡ o.view = some-injective v o.view (sym at ∙ (ap (get_elem? s.views) (sym y) ∙ o.at)) in by_first (ap (λ (z : View). knows_class z b c) vu ∙ o.knows))
+        (λ (y : o.seat ≡ id → ⊥). record { seat = o.seat; view = o.view; at = set_else viewsb other o.seat spent_view ne ∙ (set_else s.views id o.seat both y ∙ o.at); live = o.live; knows = o.knows })
+        (cases_eq o.seat id))
+        (cases_eq o.seat other)
+
+  joined_told : AreTold key s.words viewsj
+  joined_told b l n = ⊎_elim (λ (t : class_word q s.words b ≡ get_or key.classes b 0). inl t) (λ (t : IsKnown s.views b (class_word q s.words b)). inr (still_known b (class_word q s.words b) t)) (kept.told b l n)
+
   pub join_kept : Kept keeping key record { words = s.words; homes = s.homes; views = viewsj } later
   join_kept =
       let l = lenj in
@@ -509,6 +546,7 @@ module _ {V : Type 0} (keeping : V → Keeping) (key : Opened) (L : DeskLaws) (i
         hands = joined_hands;
         lights = joined_lights;
         classes = kept.classes;
+        told = joined_told;
       }
 
 pub joins : {V : Type 0} (keeping : V → Keeping) (key : Opened) (L : DeskLaws) (id other : ℕ) (v w : View) → CanTakeIn v w → Joins (Rule keeping key) id v other w (joined_view v w) spent_view

@@ -1,5 +1,5 @@
 -- A register whose seats are all in. This project's own.
-use Rattle.std.specs.Prelude.{◌≡◌, ℕ, ◌<◌, ◌≤◌, true, List, [], ◌++◌, length, slice_index}
+use Rattle.std.specs.Prelude.{◌≡◌, ◌≢◌, ◌⊎◌, ℕ, ◌<◌, ◌≤◌, true, List, [], ◌++◌, length, slice_index, slice_index_or}
 use Rattle.std.specs.List.{All}
 use Rattle.mz_events.specs.declared.entry.Entry.{Entry}
 use Rattle.mz_events.specs.State.{opening}
@@ -14,8 +14,8 @@ use Rattle.mz_book.specs.Rule.{AreInOneHand}
 use Rattle.mz_book.specs.Handed.{AreHanded}
 use Rattle.mz_desk.specs.declared.view.TakenIn.{TakenIn}
 use Rattle.mz_desk.specs.declared.view.View.{View}
-use Rattle.mz_desk.specs.Words.{light_word}
-use Rattle.mz_desk.specs.Views.{Opened, took_in}
+use Rattle.mz_desk.specs.Words.{class_word, light_word}
+use Rattle.mz_desk.specs.Views.{Opened, took_in, knows_class}
 use Rattle.mz_desk.specs.Rule.{all_of, state_after, AreSettled, Homes, AtHome, ClassesKeep}
 
 -- seat 0 holds nothing, and took in the seats of all other callers
@@ -42,7 +42,8 @@ part_of v = record { caller = v.caller; seen = v.seen; noted = v.noted; pairs = 
 
 -- At the opening each live block was in exactly one hand. The history is lawful, the counter is its length, and each entry since the
 -- opening is of a caller, and ends, resizes and denies only what is in its hand then; all seats' records are parts of it, and the pairs of
--- those that were taken in are their callers'; all keepers are at home; and slot and class words say what is live.
+-- those that were taken in are their callers'; all keepers are at home; and slot and class words say what is live; and each class is
+-- that of the opening, or one that a seat knew.
 pub record Ended {V : Type 0} (keeping : V → Keeping) (key : Opened) (v : View) (words : List ℕ) (homes : Homes V) : Type 0 where
   pub opened : AreInOneHand (after_all key.profile opening key.history) key.pairs
   pub later : List Entry
@@ -57,3 +58,4 @@ pub record Ended {V : Type 0} (keeping : V → Keeping) (key : Opened) (v : View
   pub home : (k : ℕ) → k < keeper_count key.profile → AtHome keeping key (state_after key later) homes k
   pub lights : (b j : ℕ) → b < key.profile.nano → j < 1024 → light_word key.profile words b j ≡ one_for (is_slot_live key.profile (state_after key later) b j)
   pub classes : ClassesKeep key (state_after key later) words
+  pub told : (b : ℕ) → b < key.profile.nano → class_word key.profile words b ≢ 0 → (class_word key.profile words b ≡ slice_index_or key.classes b 0) ⊎ (knows_class v b (class_word key.profile words b) ≡ true)

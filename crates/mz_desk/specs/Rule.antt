@@ -29,7 +29,7 @@ use Rattle.mz_desk.specs.declared.view.Since.{Since}
 use Rattle.mz_desk.specs.declared.view.TakenIn.{TakenIn}
 use Rattle.mz_desk.specs.declared.view.View.{View}
 use Rattle.mz_desk.specs.Words.{lock_word, class_word, light_word, word_count}
-use Rattle.mz_desk.specs.Views.{Opened, site_at, has_lock, took_in, all_pairs, pairs_of}
+use Rattle.mz_desk.specs.Views.{Opened, site_at, has_lock, took_in, knows_class, all_pairs, pairs_of}
 
 -- the opening history, and then the entries of all seats
 abbrev pub all_of : Opened → List Entry → List Entry
@@ -168,6 +168,18 @@ pub record ClassesKeep (key : Opened) (st : State) (words : List ℕ) : Type 0 w
   pub of_class : (b : ℕ) (x : Block) → b < key.profile.nano → has_block (kept_at st (nano_page (page_of_block key.profile b))).live x ≡ true → x.size ≡ slot_size (class_word key.profile words b)
   pub stays : AreSettled key.profile words key.classes
 
+-- a seat that isn't spent knows this class of the block
+pub record IsKnown (views : List View) (b class : ℕ) : Type 0 where
+  pub seat : ℕ
+  pub view : View
+  pub at : get_elem? views seat ≡ m.some view
+  pub live : view.live ≡ true
+  pub knows : knows_class view b class ≡ true
+
+-- and a class that isn't 0 is that of the opening, or a seat knows it
+abbrev pub AreTold : Opened → List ℕ → List View → Type 0
+AreTold key words views = (b : ℕ) → b < key.profile.nano → class_word key.profile words b ≢ 0 → (class_word key.profile words b ≡ slice_index_or key.classes b 0) ⊎ IsKnown views b (class_word key.profile words b)
+
 -- all seven parts, for the entries that came since the opening
 pub record Kept {V : Type 0} (keeping : V → Keeping) (key : Opened) (s : table.State (Option V) View) (later : List Entry) : Type 0 where
   pub words : length s.words ≡ word_count key.profile
@@ -180,6 +192,7 @@ pub record Kept {V : Type 0} (keeping : V → Keeping) (key : Opened) (s : table
   pub hands : HandsKeep key (state_after key later) later s.views
   pub lights : LightsKeep key.profile (state_after key later) s.words s.views
   pub classes : ClassesKeep key (state_after key later) s.words
+  pub told : AreTold key s.words s.views
 
 abbrev pub Rule : {V : Type 0} → (V → Keeping) → Opened → table.State (Option V) View → Type 0
 Rule keeping key s = (later : List Entry) × Kept keeping key s later

@@ -1,5 +1,5 @@
 -- The views of seats: what a register was opened with, the first view, and what a step makes of a view. This project's own.
-use Rattle.std.specs.Prelude.{ℕ, ◌+◌, ◌==◌, Bool, true, false, ◌||◌, not, List, [], ◌∷◌, ◌++◌, filter, replicate, slice_set, Option}
+use Rattle.std.specs.Prelude.{ℕ, ◌+◌, ◌==◌, Bool, true, false, ◌||◌, not, List, [], ◌∷◌, ◌++◌, filter, replicate, slice_set, slice_index_or, Option}
 use Rattle.std.specs.List.{list_any}
 use Rattle.mz_base.specs.declared.profile.Profile.{Profile}
 use Rattle.mz_base.specs.Site.{Site}
@@ -77,6 +77,10 @@ view_account v name spare holds founds found = record {
 -- the keeper is locked by the seat
 abbrev pub has_lock : View → ℕ → Bool
 has_lock v k = is_among v.held k || is_among v.taking k
+
+-- the seat, or one that it took in, knows this class of the block
+abbrev pub knows_class : View → ℕ → ℕ → Bool
+knows_class v b class = (slice_index_or v.settled b 0 == class) || list_any (λ x. slice_index_or x.settled b 0 == class) v.joined
 
 -- the seat took in that of this number
 abbrev pub took_in : View → ℕ → Bool

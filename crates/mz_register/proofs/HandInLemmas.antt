@@ -1,7 +1,8 @@
 -- What all passes tell when they come in.
-use Rattle.std.proofs.Common.{◌≡◌, ◌≢◌, ℕ, ◌<◌, ◌≤◌, true, List, [], ◌∷◌, ◌++◌, length, get_or, Option, Some, Vec, refl, sym, ap, ◌∙◌, subst, arith, zero, suc}
+use Rattle.std.proofs.Common.{◌≡◌, ◌≢◌, ⊎_elim, ◌==◌, ℕ, ◌<◌, ◌≤◌, true, List, [], ◌∷◌, ◌++◌, length, get_or, Option, Some, Vec, refl, sym, ap, ◌∙◌, subst, arith, zero, suc}
 use Rattle.std.specs.Prelude.{slice_get}
-use Rattle.std.specs.List.{All}
+use Rattle.std.specs.List.{All, list_any}
+use Rattle.std.proofs.lemmas.Bool.{false≢true, eqb-true}
 use Rattle.std.specs.declared.alloc.Global.{Global}
 use Rattle.atomic_table.specs.Seated.{TableId}
 use Rattle.atomic_table.specs.declared.shared.Seat.{Seat}
@@ -13,15 +14,15 @@ use Rattle.mz_book.specs.declared.pair.Pair.{Pair}
 use Rattle.mz_book.specs.Pairs.{hand_among}
 use Rattle.mz_desk.specs.declared.view.TakenIn.{TakenIn}
 use Rattle.mz_desk.specs.declared.view.View.{View}
-use Rattle.mz_desk.specs.Views.{Opened, took_in}
+use Rattle.mz_desk.specs.Views.{Opened, took_in, knows_class}
 use Rattle.mz_desk.specs.Rule.{AreSettled, Homes, all_of}
 use Rattle.mz_desk.specs.Ending.{TookAll, IsPartOf, Ended}
 use Rattle.mz_register.specs.declared.pass.Pass.{Pass}
 use Rattle.mz_register.specs.Accounts.{pass_account}
-use Rattle.mz_register.specs.HandIn.{AreAll, AreIn, IsIdleOf, joined_through, views_of}
+use Rattle.mz_register.specs.HandIn.{AreAll, AreIn, IsIdleOf, IsKnownToOne, joined_through, views_of}
 use Rattle.mz_register.proofs.Rests.{none_of}
 use Rattle.mz_register.proofs.MergeLemmas.{some_is, at_map, of_map}
-use Rattle.mz_register.proofs.JoinLemmas.{like, took, each_part, hand_first}
+use Rattle.mz_register.proofs.JoinLemmas.{or_either, like, took, each_part, known_part, hand_first}
 
 -- there is one at each index below the length
 pub there : {A : Type 0} (xs : List A) (i : ℕ) → i < length xs → (x : A) × (slice_get xs i ≡ Some x)
@@ -74,6 +75,18 @@ module _ {V : Type 0} (z : TableId) (p : Profile) (passes : List (Pass V)) (all 
   -- seat 0 took in all others
   pub all_in : TookAll seat.me.0
   all_in = subst TookAll (sym a.view) took_all
+
+  -- a class that seat 0 knows then, a pass knew
+  pub known_to : (b class : ℕ) → knows_class (joined_through v0 ws) b class ≡ true → IsKnownToOne passes b class
+  known_to b class h = ⊎_elim
+      (λ (t : knows_class v0 b class ≡ true). ⊎_elim
+      (λ (y : (get_or v0.settled b 0 == class) ≡ true). record { caller = 0; pass = a.first; at = ap (λ ps. slice_get ps 0) a.all; knows = eqb-true (get_or v0.settled b 0) class y })
+      (λ (y : list_any (λ x. get_or x.settled b 0 == class) v0.joined ≡ true). absurd (false≢true (sym (ap (λ (ts : List TakenIn). list_any (λ x. get_or x.settled b 0 == class) ts) (none_of v0.joined a.first.rested.none_joined)) ∙ y)))
+      (or_either (get_or v0.settled b 0 == class) (list_any (λ x. get_or x.settled b 0 == class) v0.joined) t))
+      (λ (t : (i : ℕ) × (w : View) × (slice_get ws i ≡ Some w) × (get_or w.settled b 0 ≡ class)).
+      let o = of_map (λ (x : Pass V). x.seat.me.0) a.others t.0 t.1 t.2 in
+      record { caller = suc t.0; pass = o.0; at = ap (λ ps. slice_get ps (suc t.0)) a.all ∙ o.1.0; knows = ap (λ (u : View). get_or u.settled b 0) o.1.1 ∙ t.3 })
+      (known_part v0 ws b class h)
 
   -- what pass c, which had this view, was at the end
   pub record IsEnd (key : Opened) (words : List ℕ) (later : List Entry) (c : ℕ) (v : View) : Type 0 where

@@ -1,15 +1,15 @@
 -- Seat 0 after it took in others, one after another.
-use Rattle.std.proofs.Common.{◌≡◌, ◌≢◌, ℕ, ◌==◌, Bool, true, false, List, [], ◌∷◌, ◌++◌, length, map, reverse, arith, refl, sym, ap, ◌∙◌, subst, eq-eqb, ne_eqb, inl, inr, zero, suc, Some}
+use Rattle.std.proofs.Common.{◌≡◌, ◌≢◌, ◌⊎◌, ⊎_elim, ℕ, ◌==◌, Bool, true, false, List, [], ◌∷◌, ◌++◌, length, map, get_or, reverse, arith, refl, sym, ap, ◌∙◌, subst, eq-eqb, ne_eqb, inl, inr, zero, suc, Some}
 use Rattle.std.specs.Prelude.{◌||◌, ◌+◌, slice_get}
-use Rattle.std.specs.List.{All}
-use Rattle.std.proofs.lemmas.Bool.{cases_Bool}
+use Rattle.std.specs.List.{All, list_any}
+use Rattle.std.proofs.lemmas.Bool.{cases_Bool, eqb-true}
 use Rattle.std.proofs.lemmas.List.Elements.{All-head, All-tail}
 use Rattle.mz_base.specs.declared.profile.Profile.{Profile}
 use Rattle.mz_book.specs.declared.pair.Pair.{Pair}
 use Rattle.mz_book.specs.Pairs.{block_of, hand_among}
 use Rattle.mz_desk.specs.declared.view.TakenIn.{TakenIn}
 use Rattle.mz_desk.specs.declared.view.View.{View}
-use Rattle.mz_desk.specs.Views.{took_in}
+use Rattle.mz_desk.specs.Views.{took_in, knows_class}
 use Rattle.mz_desk.specs.Seats.{joined_view, CanTakeIn}
 use Rattle.mz_desk.specs.Ending.{part_of}
 use Rattle.atomic_table.specs.Seated.{TableId}
@@ -69,6 +69,28 @@ each_part P v (x ∷ xs) h =
     at : ((i : ℕ) (w : View) → slice_get xs i ≡ Some w → P (part_of w)) → P (part_of x) → (i : ℕ) (w : View) → slice_get (x ∷ xs) i ≡ Some w → P (part_of w)
     at f p zero w e = subst (λ (u : View). P (part_of u)) (some_is x w e) p
     at f p (suc i) w e = f i w e
+
+-- a class that seat 0 knows then it knew before, or one of those that it took in
+
+pub or_either : (a b : Bool) → (a || b) ≡ true → (a ≡ true) ⊎ (b ≡ true)
+or_either true b h = inl refl
+or_either false b h = inr h
+
+pub known_part : (v : View) (ws : List View) (b class : ℕ) → knows_class (joined_through v ws) b class ≡ true → (knows_class v b class ≡ true) ⊎ ((i : ℕ) × (w : View) × (slice_get ws i ≡ Some w) × (get_or w.settled b 0 ≡ class))
+known_part v [] b class h = inl h
+known_part v (x ∷ xs) b class h = ⊎_elim
+    (λ (t : knows_class (joined_view v x) b class ≡ true). ⊎_elim
+    (λ (y : (get_or v.settled b 0 == class) ≡ true). inl (ap (λ (q : Bool). q || in_joined v.joined) y))
+    (λ (y : ((get_or x.settled b 0 == class) || in_joined v.joined) ≡ true). ⊎_elim
+    (λ (z : (get_or x.settled b 0 == class) ≡ true). inr (zero, x, refl, eqb-true (get_or x.settled b 0) class z))
+    (λ (z : in_joined v.joined ≡ true). inl (or_right (get_or v.settled b 0 == class) (in_joined v.joined) z))
+    (or_either (get_or x.settled b 0 == class) (in_joined v.joined) y))
+    (or_either (get_or v.settled b 0 == class) ((get_or x.settled b 0 == class) || in_joined v.joined) t))
+    (λ (t : (i : ℕ) × (w : View) × (slice_get xs i ≡ Some w) × (get_or w.settled b 0 ≡ class)). inr (suc t.0, t.1, t.2, t.3))
+    (known_part (joined_view v x) xs b class h)
+  where
+    in_joined : List TakenIn → Bool
+    in_joined ts = list_any (λ y. get_or y.settled b 0 == class) ts
 
 -- the hand of a caller is that of before, where none of them has its pairs
 

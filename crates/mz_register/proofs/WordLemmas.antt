@@ -124,4 +124,5 @@ module _ {V : Type 0} (keeping : V → Keeping) (x : Parts V) (fit : FitTogether
     home = at_home;
     lights = λ b j lb lj. light_is b j ∙ fit.words b j lb lj;
     classes = classes;
+    told = class_is;
   }

@@ -1,5 +1,5 @@
 -- All passes come in, and the register is a plain book again. This project's own.
-use Rattle.std.specs.Prelude.{◌≡◌, ◌≢◌, ℕ, ◌<◌, true, Vec, List, [], ◌∷◌, ◌++◌, length, map, slice_get, Option, Some}
+use Rattle.std.specs.Prelude.{◌≡◌, ◌≢◌, ◌⊎◌, ℕ, ◌<◌, true, Vec, List, [], ◌∷◌, ◌++◌, length, map, slice_get, Option, Some}
 use Rattle.std.specs.List.{All}
 use Rattle.std.specs.declared.alloc.Global.{Global}
 use mathlib.Core.Option as m
@@ -106,12 +106,21 @@ pub record IsPassOf (s : Account) (later : List Entry) (t : Account) (c : ℕ) (
   pub hand : hand_among c t.pairs ≡ hand x
   pub settled : (b : ℕ) → class_of x b ≢ 0 → class_of t b ≡ class_of x b
 
+-- a pass knows this class of the block
+pub record IsKnownToOne {V : Type 0} (passes : List (Pass V)) (b class : ℕ) : Type 0 where
+  pub caller : ℕ
+  pub pass : Pass V
+  pub at : slice_get passes caller ≡ Some pass
+  pub knows : class_of (pass_account pass) b ≡ class
+
 -- The account of the plain book that passes were handed into, where the former book had s. Its history is the former one followed by all
--- records, by ticket; and of the rest only pairs and classes change, and no class that a block had.
+-- records, by ticket; and of the rest only pairs and classes change. A class that a block had stays, and each is one that it had or that a
+-- pass knew.
 pub record HandsIn {V : Type 0} (s : Account) (passes : List (Pass V)) (t : Account) : Type 0 where
   pub later : List Entry
   pub after : t ≡ record s { seen = s.seen ++ later; noted = own s.caller (s.seen ++ later); pairs = t.pairs; settled = t.settled }
   pub lawful : AreLawful s.profile opening (s.seen ++ later)
   pub below : All (λ e. e.caller < s.profile.callers) later
   pub classes : (b : ℕ) → class_of s b ≢ 0 → class_of t b ≡ class_of s b
+  pub told : (b : ℕ) → class_of t b ≢ 0 → (class_of t b ≡ class_of s b) ⊎ IsKnownToOne passes b (class_of t b)
   pub each : (c : ℕ) (x : Pass V) → slice_get passes c ≡ Some x → IsPassOf s later t c (pass_account x)

@@ -1,4 +1,4 @@
-use Rattle.std.proofs.Common.{◌≡◌, ℕ, ◌+◌, ◌<◌, true, List, [], ◌++◌, length, get_or, Some, Vec, arith, sym, ap, ◌∙◌, subst, length-append}
+use Rattle.std.proofs.Common.{◌≡◌, ◌⊎◌, ⊎_elim, inl, inr, ℕ, ◌+◌, ◌<◌, true, List, [], ◌++◌, length, get_or, Some, Vec, arith, sym, ap, ◌∙◌, subst, length-append}
 use Rattle.std.specs.Prelude.{slice_get}
 use Rattle.std.specs.List.{All}
 use Rattle.std.specs.Vec.{vec_capacity}
@@ -17,6 +17,8 @@ use Rattle.mz_book.specs.Owners.{pairs_told}
 use Rattle.mz_book.specs.Handed.{pairs_since, quanta_since, GoesOn}
 use Rattle.mz_book.specs.Parts.{site_in, account_in}
 use Rattle.mz_desk.specs.declared.view.View.{View}
+use Rattle.mz_desk.specs.Words.{class_word}
+use Rattle.mz_desk.specs.Views.{knows_class}
 use Rattle.mz_desk.specs.Keys.{opened_as}
 use Rattle.mz_desk.specs.Rule.{Homes}
 use Rattle.mz_desk.specs.Ending.{Ended}
@@ -24,10 +26,10 @@ use Rattle.mz_register.specs.declared.pass.Pass.{Pass}
 use Rattle.mz_register.specs.declared.register.Register.{Register}
 use Rattle.mz_register.specs.Accounts.{pass_account}
 use Rattle.mz_register.specs.Merged.{CanWrite}
-use Rattle.mz_register.specs.HandIn.{former, IsIdleOf, IsPassOf, HandsIn}
+use Rattle.mz_register.specs.HandIn.{former, IsIdleOf, IsPassOf, IsKnownToOne, HandsIn}
 use Rattle.mz_register.proofs.CountLemmas.{all_noted}
 use Rattle.mz_register.proofs.JoinLemmas.{its_held}
-use Rattle.mz_register.proofs.HandInLemmas.{some_below, all_in, each_end, each_noted}
+use Rattle.mz_register.proofs.HandInLemmas.{some_below, known_to, all_in, each_end, each_noted}
 use Rattle.mz_register.proofs.WriteLemmas.{can_write}
 use Rattle.mz_register.proofs.FitLemmas.{Comes, fits, none_held, spare_none}
 use Rattle.mz_register.proofs.AtEnd.{last, at_end}
@@ -192,6 +194,16 @@ module _ (g : given.Over) (c : goal.After-drop-records g) where
         let q = r.class_count in
         let l : b < p.nano = omega (arith, r.opening.classes.ok.0) in
         came.classes b l ∙ e.classes.stays b l n;
+    told = λ b n.
+        let s = some_below x.classes.items b n in
+        let q = came.class_count in
+        let l : b < p.nano = omega arith in
+        let word : get_or x.classes.items b 0 ≡ class_word p words b = came.classes b l in
+        subst (λ (k : ℕ). (k ≡ get_or r.opening.classes.items b 0) ⊎ IsKnownToOne passes b k) (sym word)
+        (⊎_elim
+        (λ (y : class_word p words b ≡ get_or r.opening.classes.items b 0). inl y)
+        (λ (y : knows_class end b (class_word p words b) ≡ true). inr (known_to r.table.shared.table_id p passes c.requires.all c.join_all-seat.result.0 c.join_all-seat.result.1.items c.join_all-seat.result.2 c.join_all-seat.ensures b (class_word p words b) y))
+        (e.told b l (λ z. n (word ∙ z))));
     each = each;
   }
 

@@ -12,7 +12,7 @@ ghost use Rattle.mz_record.specs.Bytes.{Bytes, fresh, cleared, filled, linked, k
 ghost use Rattle.mz_events.specs.Hands.{hand_through};
 ghost use Rattle.mz_base.specs.Lists.{drop_block};
 ghost use Rattle.std.specs.Option.{option_to_list};
-ghost use Rattle.mz_record.specs.Served.{Request, IsServed, Serves, IsUndisturbed, is_dry, first_made};
+ghost use Rattle.mz_record.specs.Served.{Request, IsServed, Serves, IsUndisturbed, is_dry, first_made, blocks_made};
 ghost use Rattle.mz_record.specs.Dropped.{IsDropped};
 
 use mz_events::laws::entries::{lawful_entries_split, tickets_are_indices};
@@ -48,6 +48,16 @@ pub fn undisturbed()
 /// What a request gets is the block that its entries make.
 pub fn served_is_made()
     ensures { (p : Profile) (h : List entry) (q : Request) (es : List entry) (got : Option Block) → IsServed p h q es got → got ≡ first_made es }
+{
+    what_an_event_leaves();
+    what_an_event_reads();
+}
+
+/// The entries of a request make the block that is served and no other, and those that drop a block make none: no flush and no duty does.
+pub fn blocks_of_requests()
+    ensures served { (p : Profile) (h : List entry) (q : Request) (es : List entry) (got : Option Block) →
+        IsServed p h q es got → blocks_made es ≡ option_to_list got }
+    ensures dropped { (p : Profile) (h : List entry) (b : Block) (es : List entry) → IsDropped p h b es → blocks_made es ≡ [] }
 {
     what_an_event_leaves();
     what_an_event_reads();

@@ -32,6 +32,7 @@ pub other_bytes :
     → Answers v z n al (Ok (at_its_place b bytes)) w
 other_bytes v w z n al b bytes same a = record {
   mine = a.mine;
+  few = a.few;
   goes = a.goes;
   serves = subst (λ k. Serves v.book.profile w.book.seen (request_of v.book.caller z n al) a.mine (Some (block_at b.span.first k))) (sym same) a.serves;
   answer = a.answer;

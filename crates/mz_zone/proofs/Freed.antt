@@ -1,5 +1,5 @@
 -- How a block is freed, by the rack or by nano.
-use Rattle.std.proofs.Common.{◌≡◌, ◌≢◌, ℕ, ◌+◌, ◌*◌, ◌<◌, ◌≤◌, true, false, List, [], ◌∷◌, Option, None, Some, refl, ap, sym, subst, ◌∙◌, arith, inl, inr}
+use Rattle.std.proofs.Common.{◌≡◌, ◌≢◌, ℕ, ◌+◌, ◌*◌, ◌<◌, ◌≤◌, true, false, List, [], ◌∷◌, Option, None, Some, refl, ap, sym, subst, ◌∙◌, arith, inl, inr, lit≤}
 use Rattle.std.specs.Prelude.{Result, Ok, Err, IsTrue, nat_lt, ◌&&◌, ◌||◌}
 use Rattle.std.specs.Borrow.{Bor, MutBor}
 use Rattle.std.proofs.lemmas.Bool.{and_parts, eq-eqb, false≢true}
@@ -79,6 +79,7 @@ module _ (laws : ZoneLaws) (v : AtView) (t : Account) (z : ℕ) (l : LotView) (h
   pub by_rack : (got : Result (Unit {0}) NotLive) → Racked v.book z l got t → Frees v z (of_lot l) (as_freed got) (after v t)
   by_rack (Ok u) a = record {
     mine = a.mine;
+    few = a.few;
     goes = grown (Ok u) a;
     freed = a.freed;
     hand = refl;
@@ -86,6 +87,7 @@ module _ (laws : ZoneLaws) (v : AtView) (t : Account) (z : ℕ) (l : LotView) (h
   }
   by_rack (Err e) a = record {
     mine = a.mine;
+    few = a.few;
     goes = grown (Err e) a;
     freed = (a.freed.0, a.freed.1, a.freed.2, ap of_lot a.freed.3);
     hand = refl;
@@ -106,6 +108,7 @@ pub by_nano_end :
     → Frees (with_seat s nano a) 0 (of_slot x) (Ok tt) (with_seat t nano b)
 by_nano_end laws s t nano a b x placed e put = record {
   mine = entry_at e.ticket s.caller (ending x) ∷ [];
+  few = lit≤ tt;
   goes = record { adds = e.notes.adds; nothing_held = e.notes.nothing_held; nano = (refl, put.same.sits, put.same.number) };
   freed = (refl, (place.Nano, ap (λ k. End place.Nano x.span.first k) (sym placed.size), no_duty laws s.profile t.seen e.ticket s.caller x.span.first (16 * x.class)));
   hand = put.hand;
@@ -169,7 +172,7 @@ module _ (s : Account) (refs : Option (Bor Nano × MutBor NanoSeat)) (both : Bor
       (by_nano_end laws s t both.0.now both.1.now b x placed e put))
 
 -- where its nano begins
-base_of : (s : Account) (nano : Option Seated) (base : ℕ) (h : Held) → IsSeatedAt s nano → HasSlot nano base (Some h) → base ≡ nano_start s.profile * PAGE
+pub base_of : (s : Account) (nano : Option Seated) (base : ℕ) (h : Held) → IsSeatedAt s nano → HasSlot nano base (Some h) → base ≡ nano_start s.profile * PAGE
 base_of s None base h seat has = absurd has
 base_of s (Some y) base h seat has = has.0 ∙ seat.first
 
@@ -204,6 +207,7 @@ module _ (laws : ZoneLaws) (v : AtView) (p : Profile) (z : ℕ) (x : SlotView) (
       let g = (laws.noted v.book t denial n can_deny refl notes).grows.adds in
       record {
         mine = entry_at n v.book.caller denial ∷ [];
+        few = lit≤ tt;
         goes = record {
           adds = adds_apart v.book t (entry_at n v.book.caller denial ∷ []) 0 g;
           nothing_held = record {

@@ -9,3 +9,8 @@ pub mod Trying
 pub mod Aligned
 pub mod Enough
 pub mod Clearing
+pub mod Copied
+pub mod Noted
+pub mod Moved
+pub mod InPlace
+pub mod Batched

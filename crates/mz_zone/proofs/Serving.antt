@@ -1,5 +1,5 @@
 -- How a request is answered, by nano or by the rack.
-use Rattle.std.proofs.Common.{◌≡◌, ℕ, ◌-◌, ◌*◌, ◌<◌, ◌≤◌, Bool, true, false, List, [], ◌∷◌, Option, None, Some, refl, ap, sym, subst, ◌∙◌, arith, mul_comm}
+use Rattle.std.proofs.Common.{◌≡◌, ℕ, ◌-◌, ◌*◌, ◌<◌, ◌≤◌, Bool, true, false, List, [], ◌∷◌, Option, None, Some, refl, ap, sym, subst, ◌∙◌, arith, mul_comm, lit≤, length}
 use Rattle.std.specs.Prelude.{Result, Ok, Err, nat_le, ◌&&◌, ◌==◌, not, IsTrue}
 use Rattle.std.specs.List.{list_any, list_all}
 use Rattle.std.proofs.lemmas.Bool.{and_parts, false≢true}
@@ -32,7 +32,7 @@ use Rattle.mz_zone.proofs.Trying.{route_small}
 use Rattle.mz_zone.proofs.Going.{goes_on, adds_apart, goes_nowhere, seat_stays}
 
 -- a request of at most 256 bytes has 16 for each unit
-nano_size : (n : ℕ) → n ≤ 256 → good_size_of n ≡ 16 * units_of n
+pub nano_size : (n : ℕ) → n ≤ 256 → good_size_of n ≡ 16 * units_of n
 nano_size n h = ap (λ r. units_of n * unit_of r) (route_small n h) ∙ mul_comm (units_of n) 16
 
 -- what is asked of a request for nano
@@ -63,6 +63,7 @@ module _ (laws : ZoneLaws) (v w : AtView) (p : Profile) (z n al : ℕ) (can : Ca
       ap events m.1 ∙ ap (λ k. New Nano x.span.first k 16 ∷ []) size in
       record {
         mine = t.mine;
+        few = subst (λ (es : List Entry). length es ≤ 36) (sym m.1) (lit≤ tt);
         goes = t.goes;
         serves = record {
           served = by_nano x.span.first f.zone (some_pages v.book v.nano can.nano f.seated) f.small f.align made
@@ -187,6 +188,7 @@ module _ (laws : ZoneLaws) (v u : AtView) (t : Account) (z n al : ℕ) (goes : G
   pub by_lot : (got : Result LotView Null) → Racked u.book z n al got t → Answers v z n al (as_block got) (after u t)
   by_lot (Ok l) a = record {
     mine = a.mine;
+    few = a.few;
     goes = goes_on laws v u (after u t) [] a.mine goes (rack_goes v u t [] a.mine _ goes a.grows a.nothing_held);
     serves = moved a.mine _ a.serves;
     answer = (a.answer.0, a.answer.1 ∙ goes.adds.same.site, sym (all_outside a.mine a.outside_nano));
@@ -196,6 +198,7 @@ module _ (laws : ZoneLaws) (v u : AtView) (t : Account) (z n al : ℕ) (goes : G
   }
   by_lot (Err e) a = record {
     mine = a.mine;
+    few = a.few;
     goes = goes_on laws v u (after u t) [] a.mine goes (rack_goes v u t [] a.mine _ goes a.grows a.nothing_held);
     serves = moved a.mine _ a.serves;
     answer = a.answer;

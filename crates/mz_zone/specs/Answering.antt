@@ -55,10 +55,11 @@ abbrev pub HasGotSlot : AtView → Result BlockView Null → Type 0
 HasGotSlot w (Ok b) = HasSlot w.nano b.base b.slot
 HasGotSlot w (Err e) = Unit {0}
 
--- The caller's request for n bytes at al in zone z is answered by a block or by null: the record grew by just the entries that serve it, and
--- nano was tried where it is one for nano.
+-- The caller's request for n bytes at al in zone z is answered by a block or by null: the record grew by just the entries that serve it, 36
+-- at most, and nano was tried where it is one for nano.
 pub record Answers (v : AtView) (z n al : ℕ) (got : Result BlockView Null) (w : AtView) : Type 0 where
   pub mine : List Entry
+  pub few : length mine ≤ 36
   pub goes : Goes v mine w
   pub serves : Serves v.book.profile w.book.seen (request_of v.book.caller z n al) mine (block_got got)
   pub answer : IsAnswer z v.book.site mine got

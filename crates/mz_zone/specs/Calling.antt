@@ -41,7 +41,7 @@ abbrev pub with_seat : Account → Nano → NanoSeat → AtView
 with_seat s nano seat = record { book = s; nano = Some (record { nano = nano; seat = seat }) }
 
 -- the references are those of before
-abbrev KeepsSeat : Option (Bor Nano × MutBor NanoSeat) → Option (Bor Nano × MutBor NanoSeat) → Type 0
+abbrev pub KeepsSeat : Option (Bor Nano × MutBor NanoSeat) → Option (Bor Nano × MutBor NanoSeat) → Type 0
 KeepsSeat None None = Unit {0}
 KeepsSeat None (Some y) = ⊥
 KeepsSeat (Some x) None = ⊥

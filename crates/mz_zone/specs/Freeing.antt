@@ -1,6 +1,6 @@
 -- How a block that is handed in is freed, or comes back. That only a block's own zone frees it, and that a size may be told with it, is after
 -- libmalloc; the exact entries are this project's own.
-use Rattle.std.specs.Prelude.{◌≡◌, ◌≢◌, ◌⊎◌, ℕ, ◌<◌, List, [], ◌∷◌, length, map, Result, Ok, Err}
+use Rattle.std.specs.Prelude.{◌≡◌, ◌≢◌, ◌⊎◌, ℕ, ◌<◌, ◌≤◌, List, [], ◌∷◌, length, map, Result, Ok, Err}
 use Rattle.mz_base.specs.declared.profile.Profile.{Profile}
 use Rattle.mz_base.specs.Sizes.{route_of}
 use Rattle.mz_events.specs.declared.entry.Entry.{Entry}
@@ -23,9 +23,11 @@ abbrev pub hand_left : BlockView → Result (Unit {0}) NotLiveBlock → List Hel
 hand_left b (Ok u) hand = hand_without b hand
 hand_left b (Err e) hand = hand
 
--- The block that zone z was handed is freed, or comes back: the record grew by just the entries that say so, and nothing was counted.
+-- The block that zone z was handed is freed, or comes back: the record grew by just the entries that say so, three at most, and nothing was
+-- counted.
 pub record Frees (v : AtView) (z : ℕ) (b : BlockView) (got : Result (Unit {0}) NotLiveBlock) (w : AtView) : Type 0 where
   pub mine : List Entry
+  pub few : length mine ≤ 3
   pub goes : Goes v mine w
   pub freed : IsFreed v.book.profile w.book.seen z b mine got
   pub hand : hand_at w ≡ hand_left b got (hand_at v)

@@ -8,3 +8,6 @@ pub mod Making
 pub mod ZoneLaws
 pub mod Answering
 pub mod Freeing
+pub mod Moving
+pub mod Batches
+pub mod Resizing

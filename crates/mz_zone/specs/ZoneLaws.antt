@@ -23,7 +23,7 @@ use Rattle.mz_events.specs.History.{AreLawful, after_all}
 use Rattle.mz_events.specs.Holding.{changes_zones}
 use Rattle.mz_record.specs.Bytes.{Bytes, fresh, kept_in_place, is_shown_as}
 use Rattle.mz_record.specs.Moments.{state_at}
-use Rattle.mz_record.specs.Served.{Request, IsServed, Serves, IsUndisturbed, is_dry}
+use Rattle.mz_record.specs.Served.{Request, IsServed, Serves, IsUndisturbed, is_dry, blocks_made}
 use Rattle.mz_record.specs.Dropped.{IsDropped}
 use Rattle.mz_book.specs.declared.light.Light.{Light}
 use Rattle.mz_book.specs.Account.{Account, IsOrderly, entry_at, hand, owns_slot}
@@ -54,4 +54,6 @@ pub record ZoneLaws : Type 0 where
   pub through : (c : ℕ) (pairs : List Pair) (es : List Entry) → hand_among c (pairs_through c pairs es) ≡ hand_through (hand_among c pairs) es
   pub zero_open : (p : Profile) (entries : List Entry) → AreLawful p opening entries → IsTrue (is_open (after_all p opening entries) 0)
   pub hand_served : (p : Profile) (h : List Entry) (q : Request) (es : List Entry) (got : Option Block) (hand : List Block) → IsServed p h q es got → hand_through hand es ≡ hand ++ option_to_list got
+  pub blocks_served : (p : Profile) (h : List Entry) (q : Request) (es : List Entry) (got : Option Block) → IsServed p h q es got → blocks_made es ≡ option_to_list got
+  pub blocks_dropped : (p : Profile) (h : List Entry) (b : Block) (es : List Entry) → IsDropped p h b es → blocks_made es ≡ []
   pub hand_dropped : (p : Profile) (h : List Entry) (b : Block) (es : List Entry) (hand : List Block) → IsDropped p h b es → hand_through hand es ≡ drop_block b hand

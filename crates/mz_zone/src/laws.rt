@@ -25,6 +25,7 @@ pub(crate) fn of_zones()
     entries::lawful_entries_split();
     entries::tickets_are_indices();
     mz_record::laws::hands_after_requests();
+    mz_record::laws::blocks_of_requests();
     mz_record::laws::moments();
     mz_record::laws::undisturbed();
     mz_record::laws::later_entries();

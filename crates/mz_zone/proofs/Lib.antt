@@ -14,3 +14,4 @@ pub mod Noted
 pub mod Moved
 pub mod InPlace
 pub mod Batched
+mod Tested

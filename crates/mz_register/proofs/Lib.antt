@@ -9,6 +9,7 @@ mod WordLemmas
 mod FirstLemmas
 mod MergeLemmas
 mod CountLemmas
+mod Crosses
 mod JoinLemmas
 mod HandInLemmas
 mod WriteLemmas

@@ -10,7 +10,7 @@
 //! - `open`: a plain book is taken apart into a register and a pass for each caller.
 //! - `records`: records are put together by ticket.
 //! - `hand_in`: all passes come in, and the register is a plain book again.
-//! - `shared`: what of a register may be shared, and that a pass may move.
+//! - `shared`: when a register is Send and Sync, and that a pass may move.
 //!
 //! ```text
 //! words    | counter | lock of 0 | lock of 1 | .. | class of block 0 | .. | slot (0, 0) | slot (0, 1) | ..

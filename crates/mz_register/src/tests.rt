@@ -8,8 +8,11 @@ use crate::{Book, Pass, PlainBook, Register, Taken};
 use client::{note_full, settle_first, take_light};
 use mz_events::Entry;
 use std::alloc::{AllocError, Global};
+use std::process::Abort;
 use std::sync::Wait;
 use std::test::Fail;
+use std::thread;
+use std::thread::Threads;
 use toy::{Toy, profile, toys};
 
 mod client;
@@ -61,6 +64,54 @@ fn note_at_desk<R: Wait>(rt: &R, register: &Register<Toy>, pass: &mut Pass<Toy>)
     note_full(rt, &mut desk)
 }
 
+fn note_often<R: Wait>(rt: &R, register: &Register<Toy>, pass: Pass<Toy>) -> Pass<Toy>
+    requires sits { (c : ℕ) × SitsAt register.now c pass }
+    requires can { MayBeFull (pass_account pass) 1000 }
+    ensures { (c : ℕ) → SitsAt register.now c pass → SitsAt register.now c result }
+{
+    let mut pass = pass;
+    for _ in 0..1000u64 {
+        note_at_desk(rt, register, &mut pass);
+    }
+    pass
+}
+
+// Whether tickets are 0 to 1999, and each of the callers 0 and 1 has 1,000.
+fn are_all(history: &[Entry]) -> bool {
+    let in_order = history
+        .iter()
+        .enumerate()
+        .all(|(i, e)| e.ticket == i as u64);
+    let first = history.iter().filter(|e| e.caller == 0).count();
+    let second = history.iter().filter(|e| e.caller == 1).count();
+    in_order && history.len() == 2000 && first == 1000 && second == 1000
+}
+
+fn note_both<R: Threads + Wait + Sync>(
+    rt: &R,
+    register: &Register<Toy>,
+    first: Pass<Toy>,
+    second: Pass<Toy>,
+) -> (Pass<Toy>, Pass<Toy>)
+    requires first { SitsAt register.now 0 first × MayBeFull (pass_account first) 1000 }
+    requires second { SitsAt register.now 1 second × MayBeFull (pass_account second) 1000 }
+    ensures { SitsAt register.now 0 result.0 × SitsAt register.now 1 result.1 }
+{
+    thread::join(
+        rt,
+        move || -> Pass<Toy>
+            requires sits { SitsAt register.now 0 first }
+            requires can { MayBeFull (pass_account first) 1000 }
+            ensures { SitsAt register.entry.now 0 result }
+        { note_often(rt, register, first) },
+        move || -> Pass<Toy>
+            requires sits { SitsAt register.now 1 second }
+            requires can { MayBeFull (pass_account second) 1000 }
+            ensures { SitsAt register.entry.now 1 result }
+        { note_often(rt, register, second) },
+    )
+}
+
 fn hand_both(
     alloc: Global,
     register: Register<Toy>,
@@ -75,6 +126,19 @@ fn hand_both(
         return Err(Fail::from(AllocError));
     };
     Ok(book)
+}
+
+fn note_in_threads<R: Threads + Wait + Abort + Sync>(rt: &R, alloc: Global) -> Result<(), Fail> {
+    let (register, first, second) = opened(alloc, 0, 1000)?;
+    let (first, second) = note_both(rt, &register, first, second);
+    let book = hand_both(alloc, register, first, second)?;
+    assert!(rt; are_all(book.history()));
+    Ok(())
+}
+
+#[test]
+fn two_threads_note_under_one_keeper(rt: HostRuntime) -> Result<(), Fail> {
+    note_in_threads(&rt, rt.alloc())
 }
 
 fn settle_at_desk(register: &Register<Toy>, pass: &mut Pass<Toy>) -> bool

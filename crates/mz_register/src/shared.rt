@@ -14,7 +14,7 @@ pub fn registers_are_send_and_sync<V: Keep + Drop + Send + Sync>() {
     send_and_sync::<Register<V>>();
 }
 
-/// A pass moves to the thread that uses it, and so do the lights that it took.
+/// A pass moves to the thread that uses it, and so do the lights that it took. The bounds say so, and there is no result to speak of.
 pub fn passes_and_lights_are_send<V: Send>() {
     send::<Pass<V>>();
     send::<Light>();

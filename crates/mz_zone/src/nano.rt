@@ -25,10 +25,11 @@ use mz_nano::{Nano, NanoSeat, SlotSpan};
 use mz_rack::Keeper;
 use std::sync::Wait;
 
-// The most bytes of a request that nano serves, and the alignment of all its slots.
+// The most bytes of a request that nano serves.
 const MOST: u64 = 256;
 
-const QUANTUM: u64 = 16;
+/// The alignment of a request that names none, and of all slots.
+pub(crate) const QUANTUM: u64 = 16;
 
 /// Tries nano once for a request that is one for it.
 pub(crate) fn try_nano<B: Book<Keeper>, R: Wait>(

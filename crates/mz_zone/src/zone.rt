@@ -14,17 +14,12 @@ use crate::at::At;
 use crate::block::Block;
 use crate::fault::{AlignFault, CallocFault};
 use crate::laws::of_zones;
-use crate::nano::try_nano;
-use mz_base::Profile;
+use crate::nano::{QUANTUM, try_nano};
+use mz_base::{PAGE, Profile};
 use mz_book::Book;
 use mz_rack::{Keeper, Null, Rack};
 use std::alloc::{AllocError, Global};
 use std::sync::Wait;
-
-// The alignment of a request that names none, and the greatest.
-const QUANTUM: u64 = 16;
-
-const PAGE: u64 = 16_384;
 
 /// A zone.
 #[derive(Drop)]

@@ -1,7 +1,8 @@
 //! The table of forms: a line for each. Lines of a trace come first, then those of a printed run.
 
-ghost use Rattle.std.specs.Prelude.{◌≡◌};
+ghost use Rattle.std.specs.Prelude.{◌≡◌, ◌≢◌, Some};
 ghost use Rattle.mz_words.specs.Table.{form_word, kinds_of, form_among};
+ghost use Rattle.mz_words.specs.declared.table.TheConstants.{ROUND_LINES, COMMANDS, ANSWERS};
 
 use crate::kind::Kind;
 use Form::{
@@ -116,8 +117,7 @@ impl Form {
         ensures kinds { result.kinds.now ≡ kinds_of self }
     {
         use Kind::{
-            Base, BatchCount, Byte, Bytes, Caller, Given, Name, New, Number, Old, Place, Range,
-            ShowCount, Small, Zone,
+            Base, BatchCount, Byte, Caller, Given, Name, New, Number, Old, ShowCount, Zone,
         };
         match self {
             Form::Round => of("round", &[]),
@@ -142,6 +142,19 @@ impl Form {
             Form::Batch => of("batch", &[Base, BatchCount, Number]),
             Form::Unbatch => of("unbatch", &[Base]),
             Form::Use => of("use", &[Zone]),
+            _ => self.printed_row(),
+        }
+    }
+
+    /// The row of a form of a printed run.
+    fn printed_row(self) -> Row
+        requires round { form_among ROUND_LINES (form_word self) ≢ Some self }
+        requires command { form_among COMMANDS (form_word self) ≢ Some self }
+        ensures word { result.word.now ≡ form_word self }
+        ensures kinds { result.kinds.now ≡ kinds_of self }
+    {
+        use Kind::{Number, Place, Range, Small, Zone};
+        match self {
             Form::Take => of("take", &[Place, Number, Number]),
             Form::Back => of("back", &[Place, Number, Number]),
             Form::Move => of("move", &[Number, Place, Place]),
@@ -153,6 +166,19 @@ impl Form {
             Form::No => of("no", &[Place, Small, Number, Number]),
             Form::Open => of("open", &[Small]),
             Form::Shut => of("shut", &[Small]),
+            Form::Listed => of("block", &[Number, Number, Range, Zone]),
+            _ => self.answer_row(),
+        }
+    }
+
+    /// The row of a form of an answer.
+    fn answer_row(self) -> Row
+        requires { form_among ANSWERS (form_word self) ≡ Some self }
+        ensures word { result.word.now ≡ form_word self }
+        ensures kinds { result.kinds.now ≡ kinds_of self }
+    {
+        use Kind::{Bytes, Number, Zone};
+        match self {
             Form::Held => of("held", &[]),
             Form::NoZone => of("no-zone", &[]),
             Form::Overflow => of("overflow", &[]),
@@ -174,7 +200,7 @@ impl Form {
             Form::Got => of("got", &[Number]),
             Form::Freed => of("freed", &[Number]),
             Form::InZone => of("zone", &[Zone]),
-            Form::Listed => of("block", &[Number, Number, Range, Zone]),
+            _ => unreachable!(),
         }
     }
 }

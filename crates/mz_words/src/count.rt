@@ -6,7 +6,7 @@ use std::marker::Model;
 pub const MOST_IN_BATCH: u64 = 4_096;
 
 /// The number of a block within its batch, below the most. Contracts see the number.
-#[derive(Clone, Copy, Debug, PartialEq, Eq)]
+#[derive(Clone, Copy, Debug, PartialEq, Eq, PartialOrd, Ord)]
 pub struct BatchIndex {
     number: u16,
 }

@@ -1,9 +1,7 @@
 -- The keepers of the tests stand for the places of their profiles, and one of them may be held while an event is noted.
-use Rattle.std.proofs.Common.{◌≡◌, ℕ, ◌+◌, ◌-◌, ◌<◌, ◌≤◌, List, [], ◌∷◌, ◌++◌, Bool, true, false, refl, ap, sym, subst, ◌∙◌, zero, suc, arith, length, length-append, append-nil, get_or, Option, Some, None, ne_eqb}
-use Rattle.std.specs.Prelude.{map, slice_get, if◌then◌else◌}
+use Rattle.std.proofs.Common.{◌≡◌, ℕ, ◌+◌, ◌-◌, ◌<◌, ◌≤◌, List, [], ◌∷◌, ◌++◌, true, refl, ap, sym, subst, ◌∙◌, zero, suc, arith, length, length-append, append-nil, Option, Some, None, ne_eqb}
+use Rattle.std.specs.Prelude.{map, slice_get}
 use Rattle.std.specs.List.{list_all}
-use Rattle.std.specs.Bool.{MatchBool}
-use Rattle.mz_book.specs.declared.light.Asked.TheVariants.{HoldLight}
 use Rattle.std.proofs.lemmas.Bool.{false≢true}
 use Rattle.std.proofs.lemmas.List.{append_assoc}
 use Rattle.std.proofs.lemmas.List.Elements.{All-nil, All-cons, All-append}
@@ -26,16 +24,14 @@ use Rattle.mz_events.specs.Holding.{read_spots, ReadsHeld}
 use Rattle.mz_events.specs.Standing.{Keeping, Stands, of_pages}
 use Rattle.mz_book.specs.Keepers.{keeper_spot, place_at, is_held}
 use Rattle.mz_book.specs.Account.{Account, state_of, known, holds_spot, entry_at, StandsFor}
-use Rattle.mz_book.specs.Calls.{CanHoldLight, CanHold, Holds, CanNote, Notes, CanRelease, Releases}
+use Rattle.mz_book.specs.Calls.{CanHold, Holds, CanNote, Notes, CanRelease, Releases}
 use Rattle.mz_book.specs.Rule.{IsThere}
 use Rattle.mz_book.specs.Plain.{StandAtFirst, last_site, Reserves}
-use Rattle.mz_book.specs.Lights.{slots_of, has_light, light_at}
 use Rattle.mz_register.specs.declared.pass.Pass.{Pass}
 use Rattle.mz_register.specs.declared.register.Register.{Register}
 use Rattle.mz_register.specs.Accounts.{pass_account}
-use Rattle.mz_register.specs.HandIn.{AreAll, IsIdleOf, HandsIn, former}
-use Rattle.mz_register.specs.Toys.{toy, toy_site, toy_profile, large_is_full, MayBeFull, WasFull, MayLight, WasLit, HasLit, WereFull, IsIn, in_vain, IsReady}
-use Rattle.mz_register.proofs.MergeLemmas.{some_is}
+use Rattle.mz_register.specs.HandIn.{IsIdleOf, HandsIn, former}
+use Rattle.mz_register.specs.Toys.{toy, toy_site, toy_profile, large_is_full, MayBeFull, WasFull, HasLit, WereFull, IsIn, IsReady}
 
 pub keeping_is : {V : Type 0} (number : V → ℕ) (vs : List V) → map (λ v. toy (number v)) vs ≡ map toy (map number vs)
 keeping_is number [] = refl

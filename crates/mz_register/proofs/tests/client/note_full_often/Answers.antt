@@ -1,4 +1,3 @@
-use Rattle.std.proofs.Common.{arith}
 use Rattle.mz_register.proofs.ToyLemmas.{were_none, were_more, may_next}
 use Rattle.mz_register.proofs.tests.client.note_full_often.Goals as goal
 

@@ -1,9 +1,10 @@
 -- The keepers of the tests stand for the places of their profiles, and one of them may be held while an event is noted.
-use Rattle.std.proofs.Common.{◌≡◌, ℕ, ◌+◌, ◌-◌, ◌<◌, ◌≤◌, List, [], ◌∷◌, ◌++◌, true, refl, ap, sym, subst, ◌∙◌, zero, suc, arith, length, length-append, get_or, Some, None, ne_eqb}
+use Rattle.std.proofs.Common.{◌≡◌, ℕ, ◌+◌, ◌-◌, ◌<◌, ◌≤◌, List, [], ◌∷◌, ◌++◌, true, refl, ap, sym, subst, ◌∙◌, zero, suc, arith, length, length-append, append-nil, Option, Some, None, ne_eqb}
 use Rattle.std.specs.Prelude.{map, slice_get}
 use Rattle.std.specs.List.{list_all}
 use Rattle.std.proofs.lemmas.Bool.{false≢true}
-use Rattle.std.proofs.lemmas.List.Elements.{All-nil, All-cons}
+use Rattle.std.proofs.lemmas.List.{append_assoc}
+use Rattle.std.proofs.lemmas.List.Elements.{All-nil, All-cons, All-append}
 use Rattle.mz_base.specs.declared.profile.Profile.{Profile}
 use Rattle.mz_base.specs.Limits.{IsWithinLimits}
 use Rattle.mz_base.specs.Site.{Site}
@@ -22,17 +23,15 @@ use Rattle.mz_events.specs.Fitting.{FitsByEvent}
 use Rattle.mz_events.specs.Holding.{read_spots, ReadsHeld}
 use Rattle.mz_events.specs.Standing.{Keeping, Stands, of_pages}
 use Rattle.mz_book.specs.Keepers.{keeper_spot, place_at, is_held}
-use Rattle.mz_book.specs.Account.{Account, state_of, known, holds_spot, StandsFor}
-use Rattle.mz_book.specs.Calls.{CanHoldLight, CanHold, Holds, CanNote, Notes, CanRelease, Releases}
+use Rattle.mz_book.specs.Account.{Account, state_of, known, holds_spot, entry_at, StandsFor}
+use Rattle.mz_book.specs.Calls.{CanHold, Holds, CanNote, Notes, CanRelease, Releases}
 use Rattle.mz_book.specs.Rule.{IsThere}
 use Rattle.mz_book.specs.Plain.{StandAtFirst, last_site, Reserves}
-use Rattle.mz_book.specs.Lights.{slots_of, has_light, light_at}
 use Rattle.mz_register.specs.declared.pass.Pass.{Pass}
 use Rattle.mz_register.specs.declared.register.Register.{Register}
 use Rattle.mz_register.specs.Accounts.{pass_account}
-use Rattle.mz_register.specs.HandIn.{AreAll, IsIdleOf}
-use Rattle.mz_register.specs.Toys.{toy, toy_site, toy_profile, large_is_full, MayBeFull, WasFull, MayLight, IsLike, WasDark, IsReady}
-use Rattle.mz_register.proofs.MergeLemmas.{some_is}
+use Rattle.mz_register.specs.HandIn.{IsIdleOf, HandsIn, former}
+use Rattle.mz_register.specs.Toys.{toy, toy_site, toy_profile, large_is_full, MayBeFull, WasFull, HasLit, WereFull, IsIn, IsReady}
 
 pub keeping_is : {V : Type 0} (number : V → ℕ) (vs : List V) → map (λ v. toy (number v)) vs ≡ map toy (map number vs)
 keeping_is number [] = refl
@@ -174,28 +173,12 @@ module _ (s t u w : Account) (n ticket : ℕ) (may : MayBeFull s 1) (h : Holds s
       zones = ap (λ (a : Account). is_open (state_of a) 0) r.after ∙ (k.zones 0 ∙ h.zones 0);
     }
 
--- how tests go on
-
-pub fewer : (s : Account) (m n : ℕ) → n ≤ m → MayBeFull s m → MayBeFull s n
-fewer s m n l may = record { profile = may.profile; caller = may.caller; nothing_held = may.nothing_held; room = let r = may.room in omega arith; zone_open = may.zone_open }
-
-pub again : (s t : Account) (ticket m n : ℕ) → n + 1 ≤ m → MayBeFull s m → WasFull s ticket t → MayBeFull t n
-again s t ticket m n l may was = record {
-  profile = was.profile ∙ may.profile;
-  caller = let c = was.caller in let m = may.caller in omega arith;
-  nothing_held = was.nothing_held;
-  room = let a = was.spare in let r = may.room in omega arith;
-  zone_open = was.zones ∙ may.zone_open;
-}
-
-pub same_of : (z : TableId) (p : Profile) (s t : Account) (ticket : ℕ) → IsOf z p s → WasFull s ticket t → IsOf z p t
-same_of z p s t ticket o was = record { name = was.name ∙ o.name; profile = was.profile ∙ o.profile }
+-- a book of which nothing was asked yet but room
 
 zone_at_first : (p : Profile) → is_open (after_all p opening []) 0 ≡ true
 unfolding after_all
 zone_at_first p = refl
 
--- a book of which nothing was asked yet but room
 pub may_at_first : (s t : Account) (n : ℕ) → s.profile ≡ toy_profile 0 → s.caller < 2 → s.held ≡ [] → s.seen ≡ [] → Reserves s n t → MayBeFull t n
 may_at_first s t n p c h e r = record {
   profile = ap (λ (a : Account). a.profile) r.after ∙ p;
@@ -208,16 +191,69 @@ may_at_first s t n p c h e r = record {
 pub of_at_first : (z : TableId) (q p : Profile) (x : Site) (es : List Entry) (hs : List Pair) (c n : ℕ) (s t : Account) → q ≡ p → IsFresh z p x es hs c s → Reserves s n t → IsOf z q t
 of_at_first z q p x es hs c n s t e f r = record { name = ap (λ (a : Account). a.name) r.after ∙ f.name; profile = ap (λ (a : Account). a.profile) r.after ∙ (f.profile ∙ sym e) }
 
+-- entries that are noted again and again
+
+pub were_none : (s : Account) → s.held ≡ [] → WereFull s 0 s
+were_none s h = record {
+  later = [];
+  noted = sym (append-nil s.noted);
+  count = refl;
+  each = All-nil (λ e. (e.caller ≡ s.caller) × (e.event ≡ large_is_full));
+  name = refl;
+  caller = refl;
+  profile = refl;
+  between = refl;
+  nothing_held = h;
+  lights = refl;
+  spare = omega arith;
+  zones = refl;
+}
+
+pub were_more : (s t u : Account) (n ticket : ℕ) → WereFull s n t → WasFull t ticket u → WereFull s (n + 1) u
+were_more s t u n ticket w x = record {
+  later = w.later ++ entry_at ticket t.caller large_is_full ∷ [];
+  noted = x.noted ∙ (ap (λ es. es ++ entry_at ticket t.caller large_is_full ∷ []) w.noted ∙ append_assoc s.noted w.later (entry_at ticket t.caller large_is_full ∷ []));
+  count = let l = length-append w.later (entry_at ticket t.caller large_is_full ∷ []) in let k = w.count in omega arith;
+  each = All-append (λ e. (e.caller ≡ s.caller) × (e.event ≡ large_is_full)) w.later (entry_at ticket t.caller large_is_full ∷ []) w.each (All-cons (λ e. (e.caller ≡ s.caller) × (e.event ≡ large_is_full)) (entry_at ticket t.caller large_is_full) [] (w.caller, refl) (All-nil (λ e. (e.caller ≡ s.caller) × (e.event ≡ large_is_full))));
+  name = x.name ∙ w.name;
+  caller = x.caller ∙ w.caller;
+  profile = x.profile ∙ w.profile;
+  between = x.between ∙ w.between;
+  nothing_held = x.nothing_held;
+  lights = x.lights ∙ w.lights;
+  spare = let a = x.spare in let b = w.spare in omega arith;
+  zones = x.zones ∙ w.zones;
+}
+
+pub may_next : (s t : Account) (n : ℕ) → n < 1000 → MayBeFull s 1000 → WereFull s n t → MayBeFull t 1
+may_next s t n l may w = record {
+  profile = w.profile ∙ may.profile;
+  caller = let c = w.caller in let m = may.caller in omega arith;
+  nothing_held = w.nothing_held;
+  room = let a = w.spare in let r = may.room in omega arith;
+  zone_open = w.zones ∙ may.zone_open;
+}
+
 -- passes that sit at a register
 
-pub sits_again : (z : TableId) (p : Profile) (c : ℕ) (s t : Account) (ticket : ℕ) → WasFull s ticket t → IsIdleOf z p c s → IsIdleOf z p c t
-sits_again z p c s t ticket was i = record { of = same_of z p s t ticket i.of was; caller = was.caller ∙ i.caller; idle = record { keepers = was.nothing_held; lights = was.lights ∙ i.idle.lights } }
+pub sits_full : (z : TableId) (p : Profile) (c n : ℕ) (s t : Account) → WereFull s n t → IsIdleOf z p c s → IsIdleOf z p c t
+sits_full z p c n s t w i = record {
+  of = record { name = w.name ∙ i.of.name; profile = w.profile ∙ i.of.profile };
+  caller = w.caller ∙ i.caller;
+  idle = record { keepers = w.nothing_held; lights = w.lights ∙ i.idle.lights };
+}
 
-pub of_like : (z : TableId) (p : Profile) (s t : Account) → IsLike s t → IsOf z p s → IsOf z p t
-of_like z p s t l o = record { name = l.name ∙ o.name; profile = l.profile ∙ o.profile }
-
-pub sits_like : (z : TableId) (p : Profile) (c : ℕ) (s t : Account) → IsLike s t → IsIdleOf z p c s → IsIdleOf z p c t
-sits_like z p c s t l i = record { of = of_like z p s t l i.of; caller = l.caller ∙ i.caller; idle = record { keepers = l.held ∙ i.idle.keepers; lights = l.lights ∙ i.idle.lights } }
+pub sits_lit : (z : TableId) (p : Profile) (c : ℕ) (s t : Account) (got : Option ℕ) → HasLit s got t → IsIdleOf z p c s → IsIdleOf z p c t
+sits_lit z p c s t None h i = record {
+  of = record { name = ap (λ (a : Account). a.name) h ∙ i.of.name; profile = ap (λ (a : Account). a.profile) h ∙ i.of.profile };
+  caller = ap (λ (a : Account). a.caller) h ∙ i.caller;
+  idle = record { keepers = ap (λ (a : Account). a.held) h ∙ i.idle.keepers; lights = ap (λ (a : Account). a.lights) h ∙ i.idle.lights };
+}
+sits_lit z p c s t (Some n) h i = record {
+  of = record { name = ap (λ (a : Account). a.name) h.same ∙ i.of.name; profile = ap (λ (a : Account). a.profile) h.same ∙ i.of.profile };
+  caller = ap (λ (a : Account). a.caller) h.same ∙ i.caller;
+  idle = record { keepers = ap (λ (a : Account). a.held) h.same ∙ i.idle.keepers; lights = ap (λ (a : Account). a.lights) h.same ∙ i.idle.lights };
+}
 
 pub ready : {V : Type 0} (r : Register V) (p : Profile) (x : Site) (hs : List Pair) (c n : ℕ) (s : Account) (y : Pass V) → r.opening.profile ≡ p → IsFresh r.table.shared.table_id p x [] hs c s → Reserves s n (pass_account y) → IsReady n r c y
 ready r p x hs c n s y e f v = record {
@@ -239,26 +275,12 @@ may_when_ready r c n x e l y = record {
   zone_open = ap (λ es. is_open (after_all (pass_account x).profile opening es) 0) y.seen ∙ zone_at_first (pass_account x).profile;
 }
 
-pub both_are_all : {V : Type 0} (z : TableId) (p : Profile) (x y : Pass V) → p.callers ≡ 2 → IsIdleOf z p 0 (pass_account x) → IsIdleOf z p 1 (pass_account y) → AreAll z p (x ∷ y ∷ [])
-both_are_all {V} z p x y n i j = record { count = sym n; each = each }
-  where
-    each : (c : ℕ) (w : Pass V) → slice_get (x ∷ y ∷ []) c ≡ Some w → IsIdleOf z p c (pass_account w)
-    each zero w e = subst (λ (q : Pass V). IsIdleOf z p 0 (pass_account q)) (some_is x w e) i
-    each (suc zero) w e = subst (λ (q : Pass V). IsIdleOf z p 1 (pass_account q)) (some_is y w e) j
-    each (suc (suc c)) w e = absurd (cc)
+-- and the plain book that they were handed into
 
--- the light of a slot of the first block
-slots_enough : (j : ℕ) → j < 1024 → j < slots_of 1
-slots_enough j l = omega arith
-
-pub can_light : (s : Account) (j : ℕ) → j < 1024 → MayLight s → CanHoldLight s 0 j 0
-can_light s j l may = record {
-  below = let k = may.some in omega arith;
-  kind = omega arith;
-  free = ap (λ ls. has_light ls (light_at 0 j)) may.dark;
-  settled = λ e. let k = may.settled in omega arith;
-  there = λ e. subst (λ (n : ℕ). j < slots_of n) (sym may.settled) (slots_enough j l);
-  owned = λ e. absurd (omega arith);
+pub is_in : {V : Type 0} (keeping : V → Keeping) (r : Register V) (xs : List (Pass V)) (t : Account) → HandsIn (former keeping r) xs t → IsIn r t
+is_in keeping r xs t h = record {
+  profile = ap (λ (a : Account). a.profile) h.after;
+  idle = record { keepers = ap (λ (a : Account). a.held) h.after; lights = ap (λ (a : Account). a.lights) h.after };
 }
 
 -- the two that were taken out of a list of two
@@ -270,10 +292,3 @@ two_taken all less (z ∷ zs) x y e f n =
     let c = ap length f in
     let d = length-append (z ∷ zs) (x ∷ []) in
     absurd (omega arith)
-
-pub dark_again : (s t : Account) → WasDark s t → MayLight s → MayLight t
-dark_again s t was may = record {
-  some = let p = ap (λ (p : Profile). p.nano) was.like.profile in let k = may.some in omega arith;
-  dark = was.like.lights ∙ may.dark;
-  settled = ap (λ xs. get_or xs 0 0) was.settled ∙ may.settled;
-}

@@ -1,13 +1,18 @@
 -- Keepers for tests, by number, of a space with one page below nano's.
-use Rattle.std.specs.Prelude.{◌≡◌, ℕ, ◌+◌, ◌-◌, ◌==◌, ◌<◌, ◌≤◌, true, false, [], ◌∷◌, ◌++◌, None, if◌then◌else◌}
+use Rattle.std.specs.Prelude.{◌≡◌, ℕ, ◌+◌, ◌-◌, ◌==◌, ◌<◌, ◌≤◌, true, false, List, [], ◌∷◌, ◌++◌, length, slice_set, Option, Some, None, if◌then◌else◌}
+use Rattle.std.specs.List.{All}
+use Rattle.std.specs.Option.{MatchOption}
 use Rattle.mz_base.specs.declared.profile.Profile.{Profile}
 use Rattle.mz_base.specs.Site.{Site}
+use Rattle.mz_events.specs.declared.entry.Entry.{Entry}
 use Rattle.mz_events.specs.declared.event.Event.{Event}
 use Rattle.mz_events.specs.declared.event.Event.TheVariants.{Full}
 use Rattle.mz_events.specs.declared.place.Place.TheVariants.{Large}
 use Rattle.mz_events.specs.State.{nothing_kept, is_open}
 use Rattle.mz_events.specs.Standing.{Keeping, of_regions, of_large, of_pages}
-use Rattle.mz_book.specs.Account.{Account, state_of, class_of, entry_at}
+use Rattle.mz_book.specs.declared.light.Asked.{Asked}
+use Rattle.mz_book.specs.declared.light.Asked.TheVariants.{Settle}
+use Rattle.mz_book.specs.Account.{Account, state_of, HoldsNothing, class_of, entry_at, one_more}
 use Rattle.mz_register.specs.declared.pass.Pass.{Pass}
 use Rattle.mz_register.specs.declared.register.Register.{Register}
 use Rattle.mz_register.specs.Accounts.{pass_account}
@@ -55,24 +60,45 @@ pub record WasFull (s : Account) (ticket : ℕ) (t : Account) : Type 0 where
   pub spare : t.spare ≡ s.spare - 1
   pub zones : is_open (state_of t) 0 ≡ is_open (state_of s) 0
 
+-- n such entries were noted, and nothing is held
+pub record WereFull (s : Account) (n : ℕ) (t : Account) : Type 0 where
+  pub later : List Entry
+  pub noted : t.noted ≡ s.noted ++ later
+  pub count : length later ≡ n
+  pub each : All (λ e. (e.caller ≡ s.caller) × (e.event ≡ large_is_full)) later
+  pub name : t.name ≡ s.name
+  pub caller : t.caller ≡ s.caller
+  pub profile : t.profile ≡ s.profile
+  pub between : t.between ≡ s.between
+  pub nothing_held : t.held ≡ []
+  pub lights : t.lights ≡ s.lights
+  pub spare : t.spare ≡ s.spare - n
+  pub zones : is_open (state_of t) 0 ≡ is_open (state_of s) 0
+
 -- a book that holds no light, with the class 1 settled for the first block of nano
 pub record MayLight (s : Account) : Type 0 where
   pub some : 1 ≤ s.profile.nano
   pub dark : s.lights ≡ []
   pub settled : class_of s 0 ≡ 1
 
--- what a pass shows of itself is the same, and it holds what it held
-pub record IsLike (s t : Account) : Type 0 where
-  pub name : t.name ≡ s.name
-  pub profile : t.profile ≡ s.profile
-  pub caller : t.caller ≡ s.caller
-  pub held : t.held ≡ s.held
-  pub lights : t.lights ≡ s.lights
+-- with the class 1 for the first block
+abbrev pub with_first : Account → Account
+with_first s = record s { settled = slice_set s.settled 0 1 }
 
--- and it may take a light again
-pub record WasDark (s t : Account) : Type 0 where
-  pub like : IsLike s t
-  pub settled : t.settled ≡ s.settled
+-- this was asked in vain, which is counted
+abbrev pub in_vain : Asked → Account → Account
+in_vain a s = record s { founds = one_more s.founds; found = Some a }
+
+-- Of n tries for a light so many took it, and each of these gave it back: nothing is held that wasn't before, and where all took it, nothing
+-- is left of them.
+pub record WasLit (s : Account) (n taken : ℕ) (t : Account) : Type 0 where
+  pub few : taken ≤ n
+  pub same : t ≡ record s { founds = t.founds; found = t.found }
+  pub all : taken ≡ n → t ≡ s
+
+-- how often the light was got in 1,000 tries, where the class was settled
+abbrev pub HasLit : Account → Option ℕ → Account → Type 0
+HasLit s got t = MatchOption got (t ≡ in_vain (Settle 0 1) s) (λ n. WasLit (with_first s) 1000 n t)
 
 -- the pass is that of caller c at the register, and holds nothing
 abbrev pub SitsAt : {V : Type 0} → Register V → ℕ → Pass V → Type 0
@@ -89,3 +115,8 @@ pub record AreReady {V : Type 0} (nano n : ℕ) (r : Register V) (x y : Pass V) 
   pub profile : r.opening.profile ≡ toy_profile nano
   pub first : IsReady n r 0 x
   pub second : IsReady n r 1 y
+
+-- the plain book that the register's passes were handed into holds nothing
+pub record IsIn {V : Type 0} (r : Register V) (t : Account) : Type 0 where
+  pub profile : t.profile ≡ r.opening.profile
+  pub idle : HoldsNothing t

@@ -1,11 +1,11 @@
-ghost use Rattle.std.specs.Prelude.{◌≡◌, ℕ, ◌<◌, ◌≤◌, true, [], ◌∷◌, length, IfOk};
+ghost use Rattle.std.specs.Prelude.{◌≡◌, ◌<◌, ◌≤◌, [], ◌∷◌, IfOk};
 ghost use Rattle.mz_book.specs.Plain.{opening_account};
 ghost use Rattle.mz_register.specs.Passes.{IsOf};
 ghost use Rattle.mz_register.specs.Accounts.{pass_account};
-ghost use Rattle.mz_register.specs.Toys.{toy_profile, toy_site, MayBeFull, WasFull, MayLight, IsLike, WasDark, SitsAt, AreReady};
+ghost use Rattle.mz_register.specs.Toys.{toy_profile, toy_site, MayBeFull, WasFull, WereFull, HasLit, SitsAt, IsIn, AreReady};
 
 use crate::{Book, Pass, PlainBook, Register, Taken};
-use client::{note_full, settle_first, take_light};
+use client::{note_full, note_full_often, settle_first, take_light, take_light_often};
 use mz_events::Entry;
 use std::alloc::{AllocError, Global};
 use std::process::Abort;
@@ -65,14 +65,14 @@ fn note_at_desk<R: Wait>(rt: &R, register: &Register<Toy>, pass: &mut Pass<Toy>)
 }
 
 fn note_often<R: Wait>(rt: &R, register: &Register<Toy>, pass: Pass<Toy>) -> Pass<Toy>
-    requires sits { (c : ℕ) × SitsAt register.now c pass }
+    requires of { IsOf register.now.table.shared.table_id register.now.opening.profile (pass_account pass) }
     requires can { MayBeFull (pass_account pass) 1000 }
-    ensures { (c : ℕ) → SitsAt register.now c pass → SitsAt register.now c result }
+    ensures { WereFull (pass_account pass) 1000 (pass_account result) }
 {
     let mut pass = pass;
-    for _ in 0..1000u64 {
-        note_at_desk(rt, register, &mut pass);
-    }
+    let mut desk = register.desk(&mut pass);
+    note_full_often(rt, &mut desk);
+    drop(desk);
     pass
 }
 
@@ -95,19 +95,22 @@ fn note_both<R: Threads + Wait + Sync>(
 ) -> (Pass<Toy>, Pass<Toy>)
     requires first { SitsAt register.now 0 first × MayBeFull (pass_account first) 1000 }
     requires second { SitsAt register.now 1 second × MayBeFull (pass_account second) 1000 }
-    ensures { SitsAt register.now 0 result.0 × SitsAt register.now 1 result.1 }
+    ensures sit { SitsAt register.now 0 result.0 × SitsAt register.now 1 result.1 }
+    ensures noted { WereFull (pass_account first) 1000 (pass_account result.0) × WereFull (pass_account second) 1000 (pass_account result.1) }
 {
     thread::join(
         rt,
         move || -> Pass<Toy>
             requires sits { SitsAt register.now 0 first }
             requires can { MayBeFull (pass_account first) 1000 }
-            ensures { SitsAt register.entry.now 0 result }
+            ensures sits { SitsAt register.entry.now 0 result }
+            ensures noted { WereFull (pass_account first) 1000 (pass_account result) }
         { note_often(rt, register, first) },
         move || -> Pass<Toy>
             requires sits { SitsAt register.now 1 second }
             requires can { MayBeFull (pass_account second) 1000 }
-            ensures { SitsAt register.entry.now 1 result }
+            ensures sits { SitsAt register.entry.now 1 result }
+            ensures noted { WereFull (pass_account second) 1000 (pass_account result) }
         { note_often(rt, register, second) },
     )
 }
@@ -121,6 +124,7 @@ fn hand_both(
     requires callers { register.opening.profile.callers ≡ 2 }
     requires first { SitsAt register 0 first }
     requires second { SitsAt register 1 second }
+    ensures { IfOk result (λ b. IsIn register (⟦<PlainBook<Toy> as Book<Toy>>⟧.account b)) }
 {
     let Ok(book) = register.hand_in(alloc, both(alloc, first, second)?) else {
         return Err(Fail::from(AllocError));
@@ -141,24 +145,63 @@ fn two_threads_note_under_one_keeper(rt: HostRuntime) -> Result<(), Fail> {
     note_in_threads(&rt, rt.alloc())
 }
 
-fn settle_at_desk(register: &Register<Toy>, pass: &mut Pass<Toy>) -> bool
-    requires of { IsOf register.now.table.shared.table_id register.now.opening.profile (pass_account pass.old) }
-    requires may { (1 ≤ (pass_account pass.old).profile.nano) × ((pass_account pass.old).lights ≡ []) × (length (pass_account pass.old).settled ≡ (pass_account pass.old).profile.nano) }
-    ensures same { IsLike (pass_account pass.old) (pass_account pass.new) }
-    ensures may { result ≡ true → MayLight (pass_account pass.new) }
+fn light_often(register: &Register<Toy>, pass: Pass<Toy>, j: u64) -> (Pass<Toy>, Option<u64>)
+    requires of { IsOf register.now.table.shared.table_id register.now.opening.profile (pass_account pass) }
+    requires nano { 1 ≤ register.now.opening.profile.nano }
+    requires dark { (pass_account pass).lights ≡ [] }
+    requires slot { j < 1024 }
+    ensures { HasLit (pass_account pass) result.1 (pass_account result.0) }
 {
-    let mut desk = register.desk(pass);
-    settle_first(&mut desk)
+    let mut pass = pass;
+    let mut desk = register.desk(&mut pass);
+    let taken = take_light_often(&mut desk, j);
+    drop(desk);
+    (pass, taken)
 }
 
-fn light_at_desk(register: &Register<Toy>, pass: &mut Pass<Toy>, j: u64) -> bool
-    requires of { IsOf register.now.table.shared.table_id register.now.opening.profile (pass_account pass.old) }
-    requires may { MayLight (pass_account pass.old) }
-    requires slot { j < 1024 }
-    ensures { WasDark (pass_account pass.old) (pass_account pass.new) }
+fn light_both<R: Threads>(
+    rt: &R,
+    register: &Register<Toy>,
+    first: Pass<Toy>,
+    second: Pass<Toy>,
+) -> ((Pass<Toy>, Option<u64>), (Pass<Toy>, Option<u64>))
+    requires nano { 1 ≤ register.now.opening.profile.nano }
+    requires first { SitsAt register.now 0 first }
+    requires second { SitsAt register.now 1 second }
+    ensures sit { SitsAt register.now 0 result.0.0 × SitsAt register.now 1 result.1.0 }
+    ensures lit { HasLit (pass_account first) result.0.1 (pass_account result.0.0) × HasLit (pass_account second) result.1.1 (pass_account result.1.0) }
 {
-    let mut desk = register.desk(pass);
-    take_light(&mut desk, j)
+    thread::join(
+        rt,
+        move || -> (Pass<Toy>, Option<u64>)
+            requires sits { SitsAt register.now 0 first }
+            requires nano { 1 ≤ register.now.opening.profile.nano }
+            ensures sits { SitsAt register.entry.now 0 result.0 }
+            ensures lit { HasLit (pass_account first) result.1 (pass_account result.0) }
+        { light_often(register, first, 0) },
+        move || -> (Pass<Toy>, Option<u64>)
+            requires sits { SitsAt register.now 1 second }
+            requires nano { 1 ≤ register.now.opening.profile.nano }
+            ensures sits { SitsAt register.entry.now 1 result.0 }
+            ensures lit { HasLit (pass_account second) result.1 (pass_account result.0) }
+        { light_often(register, second, 1) },
+    )
+}
+
+fn light_in_threads<R: Threads + Abort>(rt: &R, alloc: Global) -> Result<(), Fail> {
+    let (register, first, second) = opened(alloc, 1, 0)?;
+    let ((first, of_first), (second, of_second)) = light_both(rt, &register, first, second);
+    assert_eq!(rt; (of_first, of_second), (Some(1000), Some(1000)));
+    let mut book = hand_both(alloc, register, first, second)?;
+    assert_eq!(rt; book.history().len(), 0);
+    assert_eq!(rt; take_light_often(&mut book, 0), Some(1000));
+    assert_eq!(rt; take_light_often(&mut book, 1), Some(1000));
+    Ok(())
+}
+
+#[test]
+fn two_threads_take_lights_of_one_block(rt: HostRuntime) -> Result<(), Fail> {
+    light_in_threads(&rt, rt.alloc())
 }
 
 fn settle_and_light(register: &Register<Toy>, pass: &mut Pass<Toy>) -> bool
@@ -166,7 +209,8 @@ fn settle_and_light(register: &Register<Toy>, pass: &mut Pass<Toy>) -> bool
     requires nano { 1 ≤ register.now.opening.profile.nano }
     requires dark { (pass_account pass.old).lights ≡ [] }
 {
-    settle_at_desk(register, pass) && light_at_desk(register, pass, 0)
+    let mut desk = register.desk(pass);
+    settle_first(&mut desk) && take_light(&mut desk, 0)
 }
 
 #[test]
@@ -211,8 +255,8 @@ fn a_client_of_any_book_notes_at_a_desk(rt: HostRuntime) -> Result<(), Fail> {
 #[test]
 fn a_client_of_any_book_notes_at_a_plain_book(rt: HostRuntime) -> Result<(), Fail> {
     let mut book = book_of_toys(rt.alloc(), 0)?;
-    book.reserve(1)?;
-    assert_eq!(rt; note_full(&rt, &mut book), 0);
-    assert_eq!(rt; book.history().len(), 1);
+    book.reserve(1000)?;
+    note_full_often(&rt, &mut book);
+    assert_eq!(rt; book.history().len(), 1000);
     Ok(())
 }

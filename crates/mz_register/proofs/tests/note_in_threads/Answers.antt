@@ -1,4 +1,4 @@
-use Rattle.std.proofs.Common.{◌<◌, arith}
+use Rattle.std.proofs.Common.{arith}
 use Rattle.mz_register.proofs.ToyLemmas.{may_when_ready}
 use Rattle.mz_register.proofs.tests.note_in_threads.Goals as goal
 

@@ -82,16 +82,6 @@ module _ (laws : ZoneLaws) (v : AtView) (t : Account) (l m : LotView) (n : ℕ) 
     moves = a.in_place.2;
   }
 
--- a block of no bytes has to move
-pub to_none : (laws : ZoneLaws) (v : AtView) (p : Profile) (z k : ℕ) (b : BlockView) (n : ℕ) → CanCall v p z k → n ≡ 0 → IsStuck v b n b v
-to_none laws v p z k b n can e = record {
-  goes = goes_nowhere laws v can.serve.nothing_held can.nano;
-  same = refl;
-  hand = refl;
-  counts = refl;
-  moves = to_nothing e;
-}
-
 -- a block of nano
 module _ (laws : ZoneLaws) (v : AtView) (p : Profile) (z k : ℕ) (x : SlotView) (n : ℕ) (can : CanCall v p z k) (handed : IsHandedIn v (of_slot x)) (placed : IsPlaced x) where
   slot_stays_so : 0 < n → n ≤ 256 → units_of n ≡ x.class → Stays v (of_slot x) n (of_slot x) v

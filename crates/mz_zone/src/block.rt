@@ -3,6 +3,7 @@ ghost use Rattle.std.specs.Prelude.{◌≡◌, length};
 ghost use Rattle.std.specs.Borrow.{Lends, Array, sem, u8};
 ghost use Rattle.mz_nano.specs.SlotViews.{IsPlaced};
 ghost use Rattle.mz_zone.specs.Blocks.{of_lot, of_slot, with_block_bytes};
+ghost use Rattle.mz_zone.specs.Inners.{IsWhereItsSlotIs};
 ghost use Rattle.mz_zone.specs.contracts.block.Block.{the_row};
 
 use mz_nano::SlotSpan;
@@ -53,6 +54,16 @@ impl Block {
     {
         Block {
             inner: Inner::Slot(slot),
+        }
+    }
+
+    // That it is where its slot is, where it is a block of nano.
+    pub(crate) fn is_where_its_slot_is(&self)
+        ensures { IsWhereItsSlotIs self.now }
+    {
+        match &self.inner {
+            Inner::Lot(_) => {}
+            Inner::Slot(_) => {}
         }
     }
 

@@ -242,20 +242,20 @@ at_first v p z all now e can orderly =
     })
 
 module _ (laws : ZoneLaws) (v u : AtView) (p : Profile) (z : ℕ) (all old : List BlockView) (held : HoldsNothing v.book) (seat : IsSeatedAt v.book v.nano) (begun : Begun v u p z all old) where
-  freed : AreFreed v z begun.bs u
-  freed = all_freed laws z begun.bs v u held seat begun.orderly begun.each
+  so_far : AreFreed v z begun.bs u
+  so_far = all_freed laws z begun.bs v u held seat begun.orderly begun.each
 
   pub all_ended : old ≡ [] → FreesBatch v z all (Ok tt) old u
   all_ended e = record {
     freed = begun.bs;
-    drops = freed.mine;
+    drops = so_far.mine;
     last = [];
-    goes = subst (λ es. Goes v es u) (sym (append-nil freed.mine)) freed.goes;
-    of_zone = freed.of_zone;
-    drop = freed.drop;
+    goes = subst (λ es. Goes v es u) (sym (append-nil so_far.mine)) so_far.goes;
+    of_zone = so_far.of_zone;
+    drop = so_far.drop;
     stops = (begun.items ∙ (ap (λ xs. begun.bs ++ reverse xs) e ∙ append-nil begun.bs), e, refl);
-    hand = freed.hand;
-    counts = freed.counts;
+    hand = so_far.hand;
+    counts = so_far.counts;
   }
 
   -- the next one
@@ -279,8 +279,8 @@ module _ (laws : ZoneLaws) (v u : AtView) (p : Profile) (z : ℕ) (all old : Lis
         let apart = other_pairs v b (reverse now) begun.bs these.others in
         record {
           in_hand = subst (λ hs. has_block hs (block_of b) ≡ true) (sym (hand_left_after laws z begun.bs v u begun.each)) (pairs_stay_in begun.bs (block_of b) (hand v.book) apart h.in_hand);
-          space = h.space ∙ sym freed.goes.adds.same.site;
-          slot = slot_then v.nano u.nano b.base b.span b.slot begun.bs freed.goes.nano freed.hand h.slot at (first_slots v b (reverse now) begun.bs these.each) begun.placed apart;
+          space = h.space ∙ sym so_far.goes.adds.same.site;
+          slot = slot_then v.nano u.nano b.base b.span b.slot begun.bs so_far.goes.nano so_far.hand h.slot at (first_slots v b (reverse now) begun.bs these.each) begun.placed apart;
         }
 
     pub one_ended : (w : AtView) → IsWhereItsSlotIs b → Frees u z b (Ok tt) w → IsOrderly w.book → Begun v w p z all now
@@ -301,18 +301,18 @@ module _ (laws : ZoneLaws) (v u : AtView) (p : Profile) (z : ℕ) (all old : Lis
     one_denied w e left order f orderly =
         let lawful : AreLawful v.book.profile opening (u.book.seen ++ f.goes.adds.more) =
         subst (λ h. AreLawful v.book.profile opening h) f.goes.adds.seen
-        (subst (λ q. AreLawful q opening w.book.seen) (f.goes.adds.same.profile ∙ freed.goes.adds.same.profile) orderly.lawful) in
+        (subst (λ q. AreLawful q opening w.book.seen) (f.goes.adds.same.profile ∙ so_far.goes.adds.same.profile) orderly.lawful) in
         let not_of = f.freed in
         record {
           freed = begun.bs;
-          drops = freed.mine;
+          drops = so_far.mine;
           last = f.mine;
-          goes = goes_on laws v u w freed.mine f.mine freed.goes f.goes;
-          of_zone = freed.of_zone;
-          drop = subst (λ h. DropInTurn v.book.profile h (map block_of begun.bs) freed.mine) (sym f.goes.adds.seen)
-              (drop_later laws v.book.profile u.book.seen f.goes.adds.more (map block_of begun.bs) freed.mine lawful (noted_seen v u freed.mine freed.goes) freed.drop);
+          goes = goes_on laws v u w so_far.mine f.mine so_far.goes f.goes;
+          of_zone = so_far.of_zone;
+          drop = subst (λ h. DropInTurn v.book.profile h (map block_of begun.bs) so_far.mine) (sym f.goes.adds.seen)
+              (drop_later laws v.book.profile u.book.seen f.goes.adds.more (map block_of begun.bs) so_far.mine lawful (noted_seen v u so_far.mine so_far.goes) so_far.drop);
           stops = subst (λ c. (all ≡ begun.bs ++ c ∷ left) × (c.zone ≢ z) × IsNotOfZone z (block_of c) f.mine × (map (λ x. x.ticket) f.mine ≡ e.ticket ∷ [])) (sym not_of.3)
               (next_items ∙ ap (λ xs. begun.bs ++ b ∷ xs) (sym order), not_of.0, not_of.1, not_of.2);
-          hand = f.hand ∙ freed.hand;
-          counts = f.counts ∙ freed.counts;
+          hand = f.hand ∙ so_far.hand;
+          counts = f.counts ∙ so_far.counts;
         }

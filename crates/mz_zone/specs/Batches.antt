@@ -46,7 +46,7 @@ pub record AnswersBatch (v : AtView) (z n count : ℕ) (bs : List BlockView) (go
   pub tries : TriedTimesIf (is_for_nano v z n 16) (units_of n) (requests_made bs got) (served_without bs got) (counts_of v) (counts_of w)
 
 -- no block is there twice
-abbrev AreOther : List BlockView → Type 0
+abbrev pub AreOther : List BlockView → Type 0
 AreOther [] = Unit {0}
 AreOther (b ∷ bs) = (has_block (map block_of bs) (block_of b) ≡ false) × AreOther bs
 
@@ -57,7 +57,7 @@ pub record AreHandedIn (v : AtView) (all : List BlockView) : Type 0 where
 
 -- Where these blocks of zone z were freed out of all, and these entries dropped them in turn: none is left, or the next one is of another
 -- zone, which the last entry says, and comes back; those behind it are left.
-abbrev Stops : ℕ → List BlockView → List BlockView → List BlockView → List Entry → Result (Unit {0}) NotLiveBlock → Type 0
+abbrev pub Stops : ℕ → List BlockView → List BlockView → List BlockView → List Entry → Result (Unit {0}) NotLiveBlock → Type 0
 Stops z all freed left last (Ok u) = (all ≡ freed) × (left ≡ []) × (last ≡ [])
 Stops z all freed left last (Err e) =
     (all ≡ freed ++ e.block ∷ left) × (e.block.zone ≢ z) × IsNotOfZone z (block_of e.block) last × (map (λ x. x.ticket) last ≡ e.ticket ∷ [])

@@ -9,7 +9,6 @@ use Rattle.std.proofs.lemmas.Map.Views.{any-filter_same}
 use Rattle.mz_base.specs.declared.profile.Profile.{Profile}
 use Rattle.mz_base.specs.Lists.{has_block, drop_block}
 use Rattle.mz_base.specs.Space.{Block, block_at, same_block}
-use Rattle.mz_ground.specs.Views.{SpanView}
 use Rattle.mz_events.specs.declared.entry.Entry.{Entry}
 use Rattle.mz_events.specs.State.{opening}
 use Rattle.mz_events.specs.History.{AreLawful}
@@ -21,12 +20,11 @@ use Rattle.mz_nano.specs.Lists.{In, is_at, without}
 use Rattle.mz_nano.specs.Rule.{Once, held}
 use Rattle.mz_nano.specs.SeatLists.{first_of, hand_of}
 use Rattle.mz_zone.specs.declared.fault.NotLiveBlock.{NotLiveBlock}
-use Rattle.mz_zone.specs.Blocks.{BlockView, block_of, hand_without, slot_dropped}
+use Rattle.mz_zone.specs.Blocks.{BlockView, IsAtSlotIf, IsAtItsSlot, block_of, hand_without, slot_dropped}
 use Rattle.mz_zone.specs.Batches.{AreOther, AreHandedIn, FreesBatch}
 use Rattle.mz_zone.specs.Calling.{AtView, Seated, CanCall, Goes, HasSlot, IsHandedIn, IsSeatedAt, StaysSeated, hand_at, hand_in}
 use Rattle.mz_zone.specs.Counts.{counts_of}
 use Rattle.mz_zone.specs.Freeing.{Frees}
-use Rattle.mz_zone.specs.Inners.{IsPlacedAt, IsWhereItsSlotIs}
 use Rattle.mz_zone.specs.ZoneLaws.{ZoneLaws}
 use Rattle.mz_zone.proofs.Freed.{can_fewer}
 use Rattle.mz_zone.proofs.Going.{goes_on, goes_nowhere}
@@ -118,20 +116,21 @@ IsElsewhere h (Some q) = is_at q.block q.slot h ≡ false
 
 -- of two blocks of nano that are no pair, neither is at the place of the other
 elsewhere :
-    (x : Seated) (base other : ℕ) (s t : SpanView) (o : Option Held) (h : Held) → HasSlot (Some x) base o → HasSlot (Some x) other (Some h) → IsPlacedAt base s o
-    → IsPlacedAt other t (Some h) → same_block (block_at s.first (length s.bytes)) (block_at t.first (length t.bytes)) ≡ false → IsElsewhere h o
-elsewhere x base other s t None h in_o in_h at_o at_h apart = tt
-elsewhere x base other s t (Some q) h in_o in_h at_o at_h apart = by_test (is_at q.block q.slot h) refl
+    (x : Seated) (c b : BlockView) (o : Option Held) (h : Held) → HasSlot (Some x) c.base o → HasSlot (Some x) b.base (Some h) → IsAtSlotIf c o
+    → IsAtSlotIf b (Some h) → same_block (block_of c) (block_of b) ≡ false → IsElsewhere h o
+elsewhere x c b None h in_o in_h at_o at_h apart = tt
+elsewhere x c b (Some q) h in_o in_h at_o at_h apart = by_test (is_at q.block q.slot h) refl
   where
     by_test : (t : Bool) → is_at q.block q.slot h ≡ t → is_at q.block q.slot h ≡ false
     by_test false e = e
     by_test true e =
         let place = and_parts (h.block == q.block) (h.slot == q.slot) e in
         let one : h ≡ q = same_slot (hand_of x.seat) q h x.seat.once in_o.1 in_h.1 (eqb-true h.block q.block place.0) (eqb-true h.slot q.slot place.1) in
-        let bases : other ≡ base = in_h.0 ∙ sym in_o.0 in
-        let first : s.first ≡ t.first = at_o.0 ∙ sym (at_h.0 ∙ (ap (λ i. i + h.block * 16384 + 16 * h.class * h.slot) bases ∙ ap (λ (y : Held). base + y.block * 16384 + 16 * y.class * y.slot) one)) in
-        let size : length s.bytes ≡ length t.bytes = at_o.1 ∙ sym (at_h.1 ∙ ap (λ (y : Held). 16 * y.class) one) in
-        absurd (false≢true (sym apart ∙ and_from (s.first == t.first) (length s.bytes == length t.bytes) (eq-eqb s.first t.first first) (eq-eqb (length s.bytes) (length t.bytes) size)))
+        let bases : b.base ≡ c.base = in_h.0 ∙ sym in_o.0 in
+        let start : c.span.first ≡ b.span.first = at_o.first ∙ sym (at_h.first ∙ (ap (λ i. i + h.block * 16384 + 16 * h.class * h.slot) bases ∙ ap (λ (y : Held). c.base + y.block * 16384 + 16 * y.class * y.slot) one)) in
+        let size : length c.span.bytes ≡ length b.span.bytes = at_o.size ∙ sym (at_h.size ∙ ap (λ (y : Held). 16 * y.class) one) in
+        absurd (false≢true (sym apart
+        ∙ and_from (c.span.first == b.span.first) (length c.span.bytes == length b.span.bytes) (eq-eqb c.span.first b.span.first start) (eq-eqb (length c.span.bytes) (length b.span.bytes) size)))
 
 stays_in : (q h : Held) (hs : List Held) → is_at q.block q.slot h ≡ false → In h hs → In h (without q.block q.slot hs)
 stays_in q h [] e i = absurd i
@@ -188,23 +187,21 @@ module _ (v : AtView) (b : BlockView) (rest : List BlockView) where
   first_slots (c ∷ bs) each = (each.0.slot, first_slots bs each.1)
 
 other_slots :
-    (x : Seated) (base : ℕ) (t : SpanView) (h : Held) (bs : List BlockView) → HasSlot (Some x) base (Some h) → IsPlacedAt base t (Some h)
-    → AllByRecursion (λ c. HasSlot (Some x) c.base c.slot) bs → AllByRecursion IsWhereItsSlotIs bs
-    → AllByRecursion (λ c. same_block (block_of c) (block_at t.first (length t.bytes)) ≡ false) bs → AllByRecursion (λ c. IsElsewhere h c.slot) bs
-other_slots x base t h [] has at each placed apart = tt
-other_slots x base t h (c ∷ bs) has at each placed apart =
-    (elsewhere x c.base base c.span t c.slot h each.0 has placed.0 at apart.0, other_slots x base t h bs has at each.1 placed.1 apart.1)
+    (x : Seated) (b : BlockView) (h : Held) (bs : List BlockView) → HasSlot (Some x) b.base (Some h) → IsAtSlotIf b (Some h)
+    → AllByRecursion (λ c. HasSlot (Some x) c.base c.slot) bs → AllByRecursion IsAtItsSlot bs
+    → AllByRecursion (λ c. same_block (block_of c) (block_of b) ≡ false) bs → AllByRecursion (λ c. IsElsewhere h c.slot) bs
+other_slots x b h [] has at each placed apart = tt
+other_slots x b h (c ∷ bs) has at each placed apart = (elsewhere x c b c.slot h each.0 has placed.0 at apart.0, other_slots x b h bs has at each.1 placed.1 apart.1)
 
 slot_then :
-    (m k : Option Seated) (base : ℕ) (t : SpanView) (o : Option Held) (bs : List BlockView) → StaysSeated m k
-    → hand_in k ≡ fold (λ hand b. hand_without b hand) (hand_in m) bs → HasSlot m base o → IsPlacedAt base t o
-    → AllByRecursion (λ c. HasSlot m c.base c.slot) bs → AllByRecursion IsWhereItsSlotIs bs
-    → AllByRecursion (λ c. same_block (block_of c) (block_at t.first (length t.bytes)) ≡ false) bs → HasSlot k base o
-slot_then m k base t None bs st e has at each placed apart = tt
-slot_then None k base t (Some h) bs st e has at each placed apart = absurd has
-slot_then (Some x) None base t (Some h) bs st e has at each placed apart = absurd st
-slot_then (Some x) (Some y) base t (Some h) bs st e has at each placed apart =
-    (has.0 ∙ sym (ap first_of st.0), subst (λ hs. In h hs) (sym e) (slot_stays_in bs h (hand_of x.seat) (other_slots x base t h bs has at each placed apart) has.1))
+    (m k : Option Seated) (b : BlockView) (o : Option Held) (bs : List BlockView) → StaysSeated m k → hand_in k ≡ fold (λ hand c. hand_without c hand) (hand_in m) bs
+    → HasSlot m b.base o → IsAtSlotIf b o → AllByRecursion (λ c. HasSlot m c.base c.slot) bs → AllByRecursion IsAtItsSlot bs
+    → AllByRecursion (λ c. same_block (block_of c) (block_of b) ≡ false) bs → HasSlot k b.base o
+slot_then m k b None bs st e has at each placed apart = tt
+slot_then None k b (Some h) bs st e has at each placed apart = absurd has
+slot_then (Some x) None b (Some h) bs st e has at each placed apart = absurd st
+slot_then (Some x) (Some y) b (Some h) bs st e has at each placed apart =
+    (has.0 ∙ sym (ap first_of st.0), subst (λ hs. In h hs) (sym e) (slot_stays_in bs h (hand_of x.seat) (other_slots x b h bs has at each placed apart) has.1))
 
 -- entries that dropped blocks do so in a longer history
 drop_later :
@@ -224,7 +221,7 @@ pub record Begun (v u : AtView) (p : Profile) (z : ℕ) (all now : List BlockVie
   pub bs : List BlockView
   pub items : all ≡ bs ++ reverse now
   pub each : FreesInTurn v z bs u
-  pub placed : AllByRecursion IsWhereItsSlotIs bs
+  pub placed : AllByRecursion IsAtItsSlot bs
   pub can : CanCall u p z (40 * length now)
   pub orderly : IsOrderly u.book
 
@@ -272,7 +269,7 @@ module _ (laws : ZoneLaws) (v u : AtView) (p : Profile) (z : ℕ) (all old : Lis
     pub can_free : CanCall u p z 40
     can_free = can_fewer u p z (40 * (length now + 1)) 40 (omega arith) can_next
 
-    pub next_handed : AreHandedIn v all → IsWhereItsSlotIs b → IsHandedIn u b
+    pub next_handed : AreHandedIn v all → IsAtItsSlot b → IsHandedIn u b
     next_handed handed at =
         let these : AreHandedIn v (begun.bs ++ b ∷ reverse now) = subst (λ xs. AreHandedIn v xs) next_items handed in
         let h : IsHandedIn v b = next_is v b (reverse now) begun.bs these.each in
@@ -280,10 +277,10 @@ module _ (laws : ZoneLaws) (v u : AtView) (p : Profile) (z : ℕ) (all old : Lis
         record {
           in_hand = subst (λ hs. has_block hs (block_of b) ≡ true) (sym (hand_left_after laws z begun.bs v u begun.each)) (pairs_stay_in begun.bs (block_of b) (hand v.book) apart h.in_hand);
           space = h.space ∙ sym so_far.goes.adds.same.site;
-          slot = slot_then v.nano u.nano b.base b.span b.slot begun.bs so_far.goes.nano so_far.hand h.slot at (first_slots v b (reverse now) begun.bs these.each) begun.placed apart;
+          slot = slot_then v.nano u.nano b b.slot begun.bs so_far.goes.nano so_far.hand h.slot at (first_slots v b (reverse now) begun.bs these.each) begun.placed apart;
         }
 
-    pub one_ended : (w : AtView) → IsWhereItsSlotIs b → Frees u z b (Ok tt) w → IsOrderly w.book → Begun v w p z all now
+    pub one_ended : (w : AtView) → IsAtItsSlot b → Frees u z b (Ok tt) w → IsOrderly w.book → Begun v w p z all now
     one_ended w at f orderly = record {
       bs = begun.bs ++ b ∷ [];
       items = next_items ∙ sym (append_assoc begun.bs (b ∷ []) (reverse now));
@@ -293,7 +290,7 @@ module _ (laws : ZoneLaws) (v u : AtView) (p : Profile) (z : ℕ) (all old : Lis
       orderly = orderly;
     }
       where
-        all_and_last : (bs : List BlockView) → AllByRecursion IsWhereItsSlotIs bs → AllByRecursion IsWhereItsSlotIs (bs ++ b ∷ [])
+        all_and_last : (bs : List BlockView) → AllByRecursion IsAtItsSlot bs → AllByRecursion IsAtItsSlot (bs ++ b ∷ [])
         all_and_last [] e = (at, tt)
         all_and_last (c ∷ bs) e = (e.0, all_and_last bs e.1)
 

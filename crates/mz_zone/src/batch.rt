@@ -59,7 +59,7 @@ impl Zone {
         of_book(at.book);
         all.reverse();
         while let Some(b) = all.pop() {
-            b.is_where_its_slot_is();
+            b.keeps_its_place();
             let freed = self.free(rt, at, b);
             of_book(at.book);
             match freed {

@@ -2,8 +2,7 @@
 ghost use Rattle.std.specs.Prelude.{◌≡◌, length};
 ghost use Rattle.std.specs.Borrow.{Lends, Array, sem, u8};
 ghost use Rattle.mz_nano.specs.SlotViews.{IsPlaced};
-ghost use Rattle.mz_zone.specs.Blocks.{of_lot, of_slot, with_block_bytes};
-ghost use Rattle.mz_zone.specs.Inners.{IsWhereItsSlotIs};
+ghost use Rattle.mz_zone.specs.Blocks.{of_lot, of_slot, with_block_bytes, IsAtItsSlot};
 ghost use Rattle.mz_zone.specs.contracts.block.Block.{the_row};
 
 use mz_nano::SlotSpan;
@@ -57,16 +56,6 @@ impl Block {
         }
     }
 
-    // That it is where its slot is, where it is a block of nano.
-    pub(crate) fn is_where_its_slot_is(&self)
-        ensures { IsWhereItsSlotIs self.now }
-    {
-        match &self.inner {
-            Inner::Lot(_) => {}
-            Inner::Slot(_) => {}
-        }
-    }
-
     /// The zone that served it. All of nano is of zone 0.
     pub fn zone(&self) -> u32
         ensures { result ≡ self.now.zone }
@@ -114,5 +103,11 @@ impl Block {
             Inner::Lot(lot) => lot.bytes_mut(),
             Inner::Slot(slot) => slot.bytes_mut(),
         }
+    }
+
+    /// A block of nano is where its slot is.
+    pub fn keeps_its_place(&self)
+        ensures { IsAtItsSlot self.now }
+    {
     }
 }

@@ -109,5 +109,6 @@ impl Block {
     pub fn keeps_its_place(&self)
         ensures { IsAtItsSlot self.now }
     {
+        let _ = &self.inner;
     }
 }

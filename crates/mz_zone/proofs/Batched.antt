@@ -37,6 +37,13 @@ keeps_seat (Some a) (Some b) (Some c) x y = (y.0 ∙ x.0, y.1 ∙ x.1)
 pub keeps_on : {B : Type 0} (a b c : At B) → KeepsReferences a b → KeepsReferences b c → KeepsReferences a c
 keeps_on a b c x y = (y.0 ∙ x.0, keeps_seat a.nano b.nano c.nano x.1 y.1)
 
+keeps_its_seat : (a : Option (Bor Nano × MutBor NanoSeat)) → KeepsSeat a a
+keeps_its_seat None = tt
+keeps_its_seat (Some a) = (refl, refl)
+
+pub keeps_all : {B : Type 0} (a : At B) → KeepsReferences a a
+keeps_all a = (refl, keeps_its_seat a.nano)
+
 -- requests that were answered in turn, all together
 pub batch :
     (laws : ZoneLaws) (z n k : ℕ) (bs : List BlockView) (got : Result (Unit {0}) Null) (v w : AtView) → HoldsNothing v.book → IsSeatedAt v.book v.nano

@@ -3,7 +3,7 @@ use Rattle.std.proofs.Common.{◌≡◌, ℕ, ◌+◌, ◌-◌, ◌*◌, ◌≤�
 use Rattle.std.specs.Prelude.{Ok, Err, fold, not, ◌==◌, ◌&&◌, ◌||◌, ◌≢◌, Contains}
 use Rattle.std.specs.List.{AllByRecursion}
 use Rattle.std.proofs.lemmas.Bool.{and_parts, or_parts, and_from, eqb-true, eq-eqb, false≢true}
-use Rattle.std.proofs.lemmas.List.{reverse-reverse, reverse-append, length-reverse, length-append}
+use Rattle.std.proofs.lemmas.List.{reverse-reverse, reverse-append, length-reverse, length-append, nil_from_length}
 use Rattle.std.proofs.lemmas.List.Elements.{Contains-append_left, Contains-append_right}
 use Rattle.std.proofs.lemmas.Map.Views.{any-filter_same}
 use Rattle.mz_base.specs.declared.profile.Profile.{Profile}
@@ -242,18 +242,21 @@ module _ (laws : ZoneLaws) (v u : AtView) (p : Profile) (z : ℕ) (all old : Lis
   so_far : AreFreed v z begun.bs u
   so_far = all_freed laws z begun.bs v u held seat begun.orderly begun.each
 
-  pub all_ended : old ≡ [] → FreesBatch v z all (Ok tt) old u
-  all_ended e = record {
-    freed = begun.bs;
-    drops = so_far.mine;
-    last = [];
-    goes = subst (λ es. Goes v es u) (sym (append-nil so_far.mine)) so_far.goes;
-    of_zone = so_far.of_zone;
-    drop = so_far.drop;
-    stops = (begun.items ∙ (ap (λ xs. begun.bs ++ reverse xs) e ∙ append-nil begun.bs), e, refl);
-    hand = so_far.hand;
-    counts = so_far.counts;
-  }
+  pub all_ended : (left : List BlockView) → old ≡ left ++ [] → length left ≡ 0 → FreesBatch v z all (Ok tt) left u
+  all_ended left is e =
+      let none : left ≡ [] = nil_from_length left e in
+      let old_none : old ≡ [] = is ∙ (append-nil left ∙ none) in
+      record {
+        freed = begun.bs;
+        drops = so_far.mine;
+        last = [];
+        goes = subst (λ es. Goes v es u) (sym (append-nil so_far.mine)) so_far.goes;
+        of_zone = so_far.of_zone;
+        drop = so_far.drop;
+        stops = (begun.items ∙ (ap (λ xs. begun.bs ++ reverse xs) old_none ∙ append-nil begun.bs), none, refl);
+        hand = so_far.hand;
+        counts = so_far.counts;
+      }
 
   -- the next one
   module _ (b : BlockView) (now : List BlockView) (is : old ≡ now ++ b ∷ []) where

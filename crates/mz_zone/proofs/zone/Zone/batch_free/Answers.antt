@@ -1,4 +1,5 @@
-use Rattle.mz_zone.specs.Calling.{AtView, seen}
+use Rattle.std.proofs.Common.{◌*◌, sym, subst, ◌∙◌}
+use Rattle.mz_zone.specs.Calling.{AtView, CanCall, seen}
 use Rattle.mz_zone.proofs.Batched.{keeps_all, keeps_on}
 use Rattle.mz_zone.proofs.Ended.{at_first, all_ended, can_free, next_handed, one_ended, one_denied}
 use Rattle.mz_zone.proofs.zone.Zone.batch_free.Goals as goal
@@ -7,12 +8,13 @@ pub loop-b-init : goal.loop-b-init
 loop-b-init g c =
     let v : AtView = seen g.B.Book.account c.args.at.now in
     record {
-      begun = at_first v c.args.self.now.profile c.args.self.now.zone c.args.all.now.items c.reverse.new.self.items c.reverse.ensures.items c.requires.can c.of_book.ensures;
+      begun = at_first v c.args.self.now.profile c.args.self.now.zone c.args.all.now.items c.reverse.new.self.items c.reverse.ensures.items
+          (subst (λ n. CanCall v c.args.self.now.profile c.args.self.now.zone (40 * n)) c.args.all.now.ok.0 c.requires.can) c.of_book.ensures;
       references = keeps_all c.args.at.now;
     }
 
-pub free-requires : goal.free-requires
-free-requires g c =
+pub free-freed-requires : goal.free-freed-requires
+free-freed-requires g c =
     let v : AtView = seen g.B.Book.account c.args.at.now in
     let u : AtView = seen g.B.Book.account c.loop-b.at in
     record {
@@ -47,4 +49,4 @@ returns-clause-frees g c =
     let v : AtView = seen g.B.Book.account c.args.at.now in
     let u : AtView = seen g.B.Book.account c.loop-b.at in
     all_ended c.of_zones.ensures v u c.args.self.now.profile c.args.self.now.zone c.args.all.now.items c.loop-b.all.items
-    c.requires.can.serve.nothing_held c.requires.can.nano c.loop-b.invariant.begun c.pop.new.self.items c.in_default.ensures.items c.in_default.ensures.cases.1
+    c.requires.can.serve.nothing_held c.requires.can.nano c.loop-b.invariant.begun c.pop.new.self.items c.in_default.ensures.items (sym c.pop.new.self.ok.0 ∙ c.in_default.ensures.cases.1)

@@ -1,6 +1,6 @@
 -- Blocks that are freed one after another.
 use Rattle.std.proofs.Common.{◌≡◌, ℕ, ◌+◌, ◌-◌, ◌*◌, ◌≤◌, Bool, true, false, List, [], ◌∷◌, ◌++◌, Option, None, Some, length, map, reverse, refl, ap, sym, subst, ◌∙◌, arith, inl, inr, append_assoc, append-nil}
-use Rattle.std.specs.Prelude.{Ok, Err, fold, not, ◌==◌, ◌&&◌, ◌||◌, ◌≢◌, Contains}
+use Rattle.std.specs.Prelude.{Ok, Err, fold, not, ◌==◌, ◌≢◌, Contains}
 use Rattle.std.specs.List.{AllByRecursion}
 use Rattle.std.proofs.lemmas.Bool.{and_parts, or_parts, and_from, eqb-true, eq-eqb, false≢true}
 use Rattle.std.proofs.lemmas.List.{reverse-reverse, reverse-append, length-reverse, length-append, nil_from_length}

@@ -13,7 +13,7 @@ use Rattle.mz_base.specs.Space.{Block}
 use Rattle.mz_events.specs.declared.entry.Entry.{Entry}
 use Rattle.mz_events.specs.Places.{nano_start}
 use Rattle.mz_record.specs.Bytes.{kept, kept_in_place, is_shown_as}
-use Rattle.mz_record.specs.Resized.{IsResized, same_size, in_place, still_large, IsMoved, to_nothing, out_of_nano}
+use Rattle.mz_record.specs.Resized.{IsResized, same_size, in_place, still_large, IsMoved, out_of_nano}
 use Rattle.mz_book.specs.Account.{Account, HoldsNothing, hand, state_of}
 use Rattle.mz_events.specs.State.{is_open}
 use Rattle.mz_book.specs.Pairs.{hand_among}

@@ -1,6 +1,6 @@
 -- Requests that try nano one after another.
-use Rattle.std.proofs.Common.{◌≡◌, ◌≢◌, ◌⊎◌, ℕ, zero, suc, ◌+◌, ◌<◌, ◌≤◌, ◌==◌, Bool, true, false, cond, List, [], ◌∷◌, Option, None, Some, length, get_or, set, refl, ap, sym, subst, ◌∙◌, arith, inl, inr}
-use Rattle.std.specs.Prelude.{slice_set, slice_index_or, count_by, ◌&&◌, nat_le, nat_lt, Result, Ok, Err}
+use Rattle.std.proofs.Common.{◌≡◌, ◌≢◌, ◌⊎◌, ℕ, zero, suc, ◌+◌, ◌≤◌, ◌==◌, Bool, true, false, cond, List, [], ◌∷◌, Option, None, Some, length, set, refl, ap, sym, subst, ◌∙◌, arith, inl, inr}
+use Rattle.std.specs.Prelude.{slice_set, slice_index_or, ◌&&◌, nat_le, nat_lt, Result, Ok, Err}
 use Rattle.std.specs.Option.{is_none}
 use Rattle.std.proofs.lemmas.Bool.{eqb-true, eq-eqb, false≢true}
 use Rattle.std.proofs.lemmas.Bool.Decides.{nat_tests}
@@ -14,7 +14,7 @@ use Rattle.mz_nano.specs.CallEffects.{risen}
 use Rattle.mz_zone.specs.Blocks.{BlockView}
 use Rattle.mz_zone.specs.Batches.{requests_made, served_without}
 use Rattle.mz_zone.specs.Calling.{AtView, Seated, StaysSeated}
-use Rattle.mz_zone.specs.Counts.{Counts, MayHaveClass, with_class, with_miss, with_pop, with_found, Tried, by_pop, by_miss, by_class, by_word, TriesIf, times, GrowsBy, TriedTimes, TriedTimesIf, has_nano, is_for_nano}
+use Rattle.mz_zone.specs.Counts.{Counts, MayHaveClass, with_class, with_miss, with_pop, Tried, by_pop, by_miss, by_class, by_word, TriesIf, times, GrowsBy, TriedTimes, TriedTimesIf, has_nano, is_for_nano}
 
 -- so many more, and then so many
 times_on : (more : ℕ → ℕ) (m k n : ℕ) → times more (m + k) n ≡ times more k (times more m n)

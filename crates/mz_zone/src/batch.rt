@@ -43,7 +43,7 @@ impl Zone {
         Ok(())
     }
 
-    /// Ends blocks, the first before the others.
+    /// Ends blocks, from the first on, up to the first of another zone: that one comes back, and those behind it are left.
     pub fn batch_free<B: Book<Keeper>, R: Wait>(
         &self,
         rt: &R,
@@ -57,6 +57,7 @@ impl Zone {
     {
         of_zones();
         of_book(at.book);
+        // Each pop takes the last.
         all.reverse();
         while let Some(b) = all.pop() {
             b.keeps_its_place();

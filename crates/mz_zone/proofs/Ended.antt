@@ -43,6 +43,7 @@ in_turn_after z (c ∷ bs) b v u w (x, f, rest) g = (x, f, in_turn_after z bs b 
 -- and all together
 pub record AreFreed (v : AtView) (z : ℕ) (bs : List BlockView) (w : AtView) : Type 0 where
   pub mine : List Entry
+  pub few : length mine ≤ 3 * length bs
   pub goes : Goes v mine w
   pub of_zone : AllByRecursion (λ b. b.zone ≡ z) bs
   pub drop : DropInTurn v.book.profile w.book.seen (map block_of bs) mine
@@ -55,12 +56,13 @@ pub all_freed :
 all_freed laws z [] v w held seat orderly e = subst (λ x. AreFreed v z [] x) (sym e) none
   where
     none : AreFreed v z [] v
-    none = record { mine = []; goes = goes_nowhere laws v held seat; of_zone = tt; drop = refl; hand = refl; counts = refl }
+    none = record { mine = []; few = omega arith; goes = goes_nowhere laws v held seat; of_zone = tt; drop = refl; hand = refl; counts = refl }
 all_freed laws z (b ∷ bs) v w held seat orderly (u, f, rest) =
     let same = f.goes.adds.same in
     let t : AreFreed u z bs w = all_freed laws z bs u w f.goes.nothing_held (seated_after v.book u.book v.nano u.nano f.goes.nano same.profile same.site seat) orderly rest in
     record {
       mine = f.mine ++ t.mine;
+      few = let e = length-append f.mine t.mine in let m = f.few in let n = t.few in omega (arith, e, m, n);
       goes = goes_on laws v u w f.mine t.mine f.goes t.goes;
       of_zone = (f.freed.0, t.of_zone);
       drop = (
@@ -246,14 +248,20 @@ module _ (laws : ZoneLaws) (v u : AtView) (p : Profile) (z : ℕ) (all old : Lis
   all_ended left is e =
       let none : left ≡ [] = nil_from_length left e in
       let old_none : old ≡ [] = is ∙ (append-nil left ∙ none) in
+      let whole : all ≡ begun.bs = begun.items ∙ (ap (λ xs. begun.bs ++ reverse xs) old_none ∙ append-nil begun.bs) in
       record {
         freed = begun.bs;
         drops = so_far.mine;
         last = [];
+        few =
+            let e : length (so_far.mine ++ []) ≡ length so_far.mine = ap length (append-nil so_far.mine) in
+            let k : length all ≡ length begun.bs = ap length whole in
+            let n = so_far.few in
+            omega (arith, e, k, n);
         goes = subst (λ es. Goes v es u) (sym (append-nil so_far.mine)) so_far.goes;
         of_zone = so_far.of_zone;
         drop = so_far.drop;
-        stops = (begun.items ∙ (ap (λ xs. begun.bs ++ reverse xs) old_none ∙ append-nil begun.bs), none, refl);
+        stops = (whole, none, refl);
         hand = so_far.hand;
         counts = so_far.counts;
       }
@@ -307,6 +315,13 @@ module _ (laws : ZoneLaws) (v u : AtView) (p : Profile) (z : ℕ) (all old : Lis
           freed = begun.bs;
           drops = so_far.mine;
           last = f.mine;
+          few =
+              let e = length-append so_far.mine f.mine in
+              let k : length all ≡ length (begun.bs ++ b ∷ reverse now) = ap length next_items in
+              let l = length-append begun.bs (b ∷ reverse now) in
+              let m = so_far.few in
+              let n = f.few in
+              omega (arith, e, k, l, m, n);
           goes = goes_on laws v u w so_far.mine f.mine so_far.goes f.goes;
           of_zone = so_far.of_zone;
           drop = subst (λ h. DropInTurn v.book.profile h (map block_of begun.bs) so_far.mine) (sym f.goes.adds.seen)

@@ -1,6 +1,6 @@
 -- Batches: requests one after another, and blocks that are freed one after another. After libmalloc's batch calls; the exact entries are
 -- this project's own.
-use Rattle.std.specs.Prelude.{◌≡◌, ◌≢◌, ℕ, zero, suc, ◌+◌, false, List, [], ◌∷◌, ◌++◌, length, map, fold, count_by, Result, Ok, Err}
+use Rattle.std.specs.Prelude.{◌≡◌, ◌≢◌, ℕ, zero, suc, ◌+◌, ◌*◌, ◌≤◌, false, List, [], ◌∷◌, ◌++◌, length, map, fold, count_by, Result, Ok, Err}
 use Rattle.std.specs.List.{AllByRecursion}
 use Rattle.std.specs.Option.{is_none}
 use Rattle.mz_base.specs.Sizes.{units_of}
@@ -62,11 +62,13 @@ Stops z all freed left last (Ok u) = (all ≡ freed) × (left ≡ []) × (last �
 Stops z all freed left last (Err e) =
     (all ≡ freed ++ e.block ∷ left) × (e.block.zone ≢ z) × IsNotOfZone z (block_of e.block) last × (map (λ x. x.ticket) last ≡ e.ticket ∷ [])
 
--- The blocks are freed from the first on, up to the first of another zone. Nothing is counted.
+-- The blocks are freed from the first on, up to the first of another zone: the record grew by just the entries that say so, three at most
+-- for each block, and nothing was counted.
 pub record FreesBatch (v : AtView) (z : ℕ) (all : List BlockView) (got : Result (Unit {0}) NotLiveBlock) (left : List BlockView) (w : AtView) : Type 0 where
   pub freed : List BlockView
   pub drops : List Entry
   pub last : List Entry
+  pub few : length (drops ++ last) ≤ 3 * length all
   pub goes : Goes v (drops ++ last) w
   pub of_zone : AllByRecursion (λ b. b.zone ≡ z) freed
   pub drop : DropInTurn v.book.profile w.book.seen (map block_of freed) drops

@@ -1,9 +1,10 @@
 -- Requests one after another.
-use Rattle.std.proofs.Common.{◌≡◌, ℕ, zero, suc, ◌+◌, ◌-◌, ◌*◌, ◌<◌, ◌≤◌, List, [], ◌∷◌, ◌++◌, Option, None, Some, length, refl, ap, sym, subst, ◌∙◌, arith, inl, inr, append_assoc, append-nil}
+use Rattle.std.proofs.Common.{◌≡◌, ℕ, zero, suc, ◌+◌, ◌-◌, ◌*◌, ◌<◌, ◌≤◌, cond, List, [], ◌∷◌, ◌++◌, Option, None, Some, length, refl, ap, sym, subst, ◌∙◌, arith, inl, inr, append_assoc, append-nil}
 use Rattle.std.specs.Prelude.{Result, Ok, Err}
 use Rattle.std.proofs.lemmas.Grind.{flat_map-append}
 use Rattle.std.specs.Borrow.{Bor, MutBor}
-use Rattle.std.specs.Option.{option_to_list}
+use Rattle.std.specs.Option.{is_none, option_to_list}
+use Rattle.mz_base.specs.Sizes.{units_of}
 use Rattle.mz_base.specs.declared.profile.Profile.{Profile}
 use Rattle.mz_record.specs.Served.{ServeInTurn, block_made, blocks_made}
 use Rattle.mz_book.specs.Account.{HoldsNothing, IsOrderly}
@@ -15,12 +16,14 @@ use Rattle.mz_zone.specs.Calling.{AtView, CanCall, IsSeatedAt, KeepsReferences, 
 use Rattle.mz_nano.specs.declared.nano.Nano.{Nano}
 use Rattle.mz_nano.specs.declared.seat.NanoSeat.{NanoSeat}
 use Rattle.mz_zone.specs.Answering.{Answers}
-use Rattle.mz_zone.specs.Batches.{AnswersInTurn, AnswersBatch}
+use Rattle.mz_zone.specs.Batches.{AnswersInTurn, AnswersBatch, requests_made, served_without}
+use Rattle.mz_zone.specs.Counts.{TriedTimesIf, counts_of, is_for_nano}
 use Rattle.mz_zone.specs.ZoneLaws.{ZoneLaws}
 use Rattle.mz_zone.proofs.Freed.{can_fewer}
 use Rattle.mz_zone.proofs.Going.{goes_on, goes_nowhere}
 use Rattle.mz_zone.proofs.Moved.{can_then, seated_after}
 use Rattle.mz_zone.proofs.Noted.{served_on}
+use Rattle.mz_zone.proofs.Summed.{no_try, once, tries_on, one_made, one_without, still_for_nano}
 
 -- references that two calls keep
 keeps_seat : (a b c : Option (Bor Nano × MutBor NanoSeat)) → KeepsSeat a b → KeepsSeat b c → KeepsSeat a c
@@ -34,6 +37,13 @@ keeps_seat (Some a) (Some b) (Some c) x y = (y.0 ∙ x.0, y.1 ∙ x.1)
 pub keeps_on : {B : Type 0} (a b c : At B) → KeepsReferences a b → KeepsReferences b c → KeepsReferences a c
 keeps_on a b c x y = (y.0 ∙ x.0, keeps_seat a.nano b.nano c.nano x.1 y.1)
 
+keeps_its_seat : (a : Option (Bor Nano × MutBor NanoSeat)) → KeepsSeat a a
+keeps_its_seat None = tt
+keeps_its_seat (Some a) = (refl, refl)
+
+pub keeps_all : {B : Type 0} (a : At B) → KeepsReferences a a
+keeps_all a = (refl, keeps_its_seat a.nano)
+
 -- requests that were answered in turn, all together
 pub batch :
     (laws : ZoneLaws) (z n k : ℕ) (bs : List BlockView) (got : Result (Unit {0}) Null) (v w : AtView) → HoldsNothing v.book → IsSeatedAt v.book v.nano
@@ -41,7 +51,7 @@ pub batch :
 batch laws z n zero [] (Ok u) v w held seat orderly each = subst (λ x. AnswersBatch v z n 0 [] (Ok u) x) (sym each) none
   where
     none : AnswersBatch v z n 0 [] (Ok u) v
-    none = record { mine = []; goes = goes_nowhere laws v held seat; serve = refl; made = refl; each = refl }
+    none = record { mine = []; goes = goes_nowhere laws v held seat; serve = refl; made = refl; each = refl; tries = no_try (is_for_nano v z n 16) (units_of n) (counts_of v) }
 batch laws z n zero [] (Err e) v w held seat orderly each = absurd each
 batch laws z n zero (b ∷ bs) got v w held seat orderly each = absurd each
 batch laws z n (suc k) [] (Ok u) v w held seat orderly each = absurd each
@@ -51,6 +61,7 @@ batch laws z n (suc k) [] (Err e) v w held seat orderly each = record {
   serve = inl each.serves;
   made = sym (laws.blocks_served v.book.profile w.book.seen (request_of v.book.caller z n 16) each.mine None each.serves.served);
   each = each;
+  tries = once (is_for_nano v z n 16) (units_of n) (counts_of v) (counts_of w) None each.tries;
 }
 batch laws z n (suc k) (b ∷ bs) got v w held seat orderly (u, a, rest) =
     let same = a.goes.adds.same in
@@ -72,6 +83,11 @@ batch laws z n (suc k) (b ∷ bs) got v w held seat orderly (u, a, rest) =
       );
       made = ap (λ cs. block_of b ∷ cs) t.made ∙ sym (flat_map-append (λ e. option_to_list (block_made e.event)) a.mine t.mine ∙ ap (λ cs. cs ++ blocks_made t.mine) first);
       each = (u, a, rest);
+      tries = subst (λ k. TriedTimesIf (is_for_nano v z n 16) (units_of n) (requests_made (b ∷ bs) got) k (counts_of v) (counts_of w)) (one_without b bs got)
+          (subst (λ m. TriedTimesIf (is_for_nano v z n 16) (units_of n) m (cond (is_none b.slot) 1 0 + served_without bs got) (counts_of v) (counts_of w)) (one_made b bs got)
+          (tries_on (is_for_nano v z n 16) (units_of n) 1 (cond (is_none b.slot) 1 0) (requests_made bs got) (served_without bs got) (counts_of v) (counts_of u) (counts_of w)
+          (once (is_for_nano v z n 16) (units_of n) (counts_of v) (counts_of u) b.slot a.tries)
+          (subst (λ t. TriedTimesIf t (units_of n) (requests_made bs got) (served_without bs got) (counts_of u) (counts_of w)) (still_for_nano v u z n 16 a.goes.nano) t.tries)));
     }
 
 -- requests after others that all brought blocks

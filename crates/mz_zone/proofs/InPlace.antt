@@ -13,7 +13,7 @@ use Rattle.mz_base.specs.Space.{Block}
 use Rattle.mz_events.specs.declared.entry.Entry.{Entry}
 use Rattle.mz_events.specs.Places.{nano_start}
 use Rattle.mz_record.specs.Bytes.{kept, kept_in_place, is_shown_as}
-use Rattle.mz_record.specs.Resized.{IsResized, same_size, in_place, still_large, IsMoved, to_nothing, out_of_nano}
+use Rattle.mz_record.specs.Resized.{IsResized, same_size, in_place, still_large, IsMoved, out_of_nano}
 use Rattle.mz_book.specs.Account.{Account, HoldsNothing, hand, state_of}
 use Rattle.mz_events.specs.State.{is_open}
 use Rattle.mz_book.specs.Pairs.{hand_among}
@@ -81,16 +81,6 @@ module _ (laws : ZoneLaws) (v : AtView) (t : Account) (l m : LotView) (n : ℕ) 
     counts = rack_counts v t a.mine a.holds a.grows;
     moves = a.in_place.2;
   }
-
--- a block of no bytes has to move
-pub to_none : (laws : ZoneLaws) (v : AtView) (p : Profile) (z k : ℕ) (b : BlockView) (n : ℕ) → CanCall v p z k → n ≡ 0 → IsStuck v b n b v
-to_none laws v p z k b n can e = record {
-  goes = goes_nowhere laws v can.serve.nothing_held can.nano;
-  same = refl;
-  hand = refl;
-  counts = refl;
-  moves = to_nothing e;
-}
 
 -- a block of nano
 module _ (laws : ZoneLaws) (v : AtView) (p : Profile) (z k : ℕ) (x : SlotView) (n : ℕ) (can : CanCall v p z k) (handed : IsHandedIn v (of_slot x)) (placed : IsPlaced x) where

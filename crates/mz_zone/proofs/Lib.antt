@@ -13,5 +13,7 @@ pub mod Copied
 pub mod Noted
 pub mod Moved
 pub mod InPlace
+pub mod Summed
 pub mod Batched
+pub mod Ended
 mod Tested

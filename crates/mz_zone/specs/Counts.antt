@@ -1,6 +1,6 @@
 -- That nano is tried, and how a request is answered without it. One try for each request is after libmalloc's nano; the counts are
 -- this project's own.
-use Rattle.std.specs.Prelude.{◌≡◌, ◌⊎◌, ℕ, ◌==◌, Bool, true, false, nat_le, ◌&&◌, List, Option, None, Some, slice_set, slice_index_or}
+use Rattle.std.specs.Prelude.{◌≡◌, ◌⊎◌, ℕ, zero, suc, ◌+◌, ◌==◌, Bool, true, false, nat_le, ◌&&◌, List, length, Option, None, Some, slice_set, slice_index_or}
 use Rattle.mz_base.specs.Sizes.{units_of}
 use Rattle.mz_book.specs.declared.light.Asked.{Asked}
 use Rattle.mz_book.specs.declared.light.Asked.TheVariants.{Settle, HoldLight}
@@ -78,3 +78,29 @@ TriesIf false c x slot y = (slot ≡ None) × (y ≡ x)
 -- a request for n bytes at al in zone z got this slot, or none
 abbrev pub Tries : AtView → ℕ → ℕ → ℕ → Option Held → AtView → Type 0
 Tries v z n al slot w = TriesIf (is_for_nano v z n al) (units_of n) (counts_of v) slot (counts_of w)
+
+-- a count after so many more
+abbrev pub times : (ℕ → ℕ) → ℕ → ℕ → ℕ
+times more zero n = n
+times more (suc k) n = times more k (more n)
+
+-- as many classes are known, and each that wasn't known before is c
+pub record GrowsBy (c : ℕ) (xs ys : List ℕ) : Type 0 where
+  pub same_length : length ys ≡ length xs
+  pub each : (b : ℕ) → (slice_index_or ys b 0 ≡ slice_index_or xs b 0) ⊎ ((slice_index_or xs b 0 ≡ 0) × (slice_index_or ys b 0 ≡ c))
+
+-- So many requests of class c tried nano once each, and so many of them got no slot: as many as were missed, and found with another word.
+-- No class but this is known that wasn't known before.
+pub record TriedTimes (c made without : ℕ) (x y : Counts) : Type 0 where
+  pub missed : ℕ
+  pub found : ℕ
+  pub all : missed + found ≡ without
+  pub tries : y.tries ≡ times risen made x.tries
+  pub misses : y.misses ≡ times risen missed x.misses
+  pub founds : y.founds ≡ times one_more found x.founds
+  pub settled : GrowsBy c x.settled y.settled
+
+-- requests that aren't for nano count nothing
+abbrev pub TriedTimesIf : Bool → ℕ → ℕ → ℕ → Counts → Counts → Type 0
+TriedTimesIf true c made without x y = TriedTimes c made without x y
+TriedTimesIf false c made without x y = y ≡ x

@@ -1,12 +1,13 @@
-//! The call that makes many blocks.
-ghost use Rattle.std.specs.Prelude.{◌≡◌, ◌*◌, ◌+◌, ◌≤◌, ◌++◌, List, vec_len};
+//! The calls on many blocks.
+ghost use Rattle.std.specs.Prelude.{◌≡◌, ◌*◌, ◌+◌, ◌≤◌, ◌++◌, List, vec_len, length};
 ghost use Rattle.std.specs.Vec.{vec_capacity};
 ghost use Rattle.mz_zone.specs.Blocks.{BlockView};
 ghost use Rattle.mz_zone.specs.Calling.{seen, CanCall, KeepsReferences};
-ghost use Rattle.mz_zone.specs.Batches.{AnswersBatch};
+ghost use Rattle.mz_zone.specs.Batches.{AnswersBatch, AreHandedIn, FreesBatch};
 
 use crate::at::At;
 use crate::block::Block;
+use crate::fault::NotLiveBlock;
 use crate::laws::{of_book, of_zones};
 use crate::zone::Zone;
 use mz_book::Book;
@@ -39,6 +40,37 @@ impl Zone {
             }
         }
         of_book(at.book);
+        Ok(())
+    }
+
+    /// Ends blocks, from the first on, up to the first of another zone: that one comes back, and those behind it are left.
+    pub fn batch_free<B: Book<Keeper>, R: Wait>(
+        &self,
+        rt: &R,
+        at: &mut At<B>,
+        all: &mut Vec<Block>,
+    ) -> Result<(), NotLiveBlock>
+        requires can { CanCall (seen B.account at.old) self.now.profile self.now.zone (40 * vec_len all.old) }
+        requires blocks { AreHandedIn (seen B.account at.old) all.old.items }
+        ensures references { KeepsReferences at.old at.new }
+        ensures frees { FreesBatch (seen B.account at.old) self.now.zone all.old.items result all.new.items (seen B.account at.new) }
+    {
+        of_zones();
+        of_book(at.book);
+        // Each pop takes the last.
+        all.reverse();
+        while let Some(b) = all.pop() {
+            b.keeps_its_place();
+            let freed = self.free(rt, at, b);
+            of_book(at.book);
+            match freed {
+                Ok(()) => {}
+                Err(fault) => {
+                    all.reverse();
+                    return Err(fault);
+                }
+            }
+        }
         Ok(())
     }
 }

@@ -2,7 +2,7 @@
 ghost use Rattle.std.specs.Prelude.{◌≡◌, length};
 ghost use Rattle.std.specs.Borrow.{Lends, Array, sem, u8};
 ghost use Rattle.mz_nano.specs.SlotViews.{IsPlaced};
-ghost use Rattle.mz_zone.specs.Blocks.{of_lot, of_slot, with_block_bytes};
+ghost use Rattle.mz_zone.specs.Blocks.{of_lot, of_slot, with_block_bytes, IsAtItsSlot};
 ghost use Rattle.mz_zone.specs.contracts.block.Block.{the_row};
 
 use mz_nano::SlotSpan;
@@ -103,5 +103,12 @@ impl Block {
             Inner::Lot(lot) => lot.bytes_mut(),
             Inner::Slot(slot) => slot.bytes_mut(),
         }
+    }
+
+    /// A block of nano is where its slot is.
+    pub fn keeps_its_place(&self)
+        ensures { IsAtItsSlot self.now }
+    {
+        let _ = &self.inner;
     }
 }

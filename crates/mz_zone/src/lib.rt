@@ -16,7 +16,7 @@
 //! - `At`: what a call is made with, a book and maybe nano with a seat.
 //! - `Block`: one block with its bytes, a lot of the rack or a slot of nano.
 //! - `Zone`: the calls. `zone` has those that make blocks, `free` those that end them, `realloc` the one that changes a size, `batch`
-//!   the one that makes many blocks.
+//!   those on many blocks.
 //! - `fault`: why a call is refused, and its number.
 //! - `nano`: how a slot becomes a block, and how that ends.
 //!

@@ -1,6 +1,7 @@
 -- What the tests keep from step to step. This project's own.
-use Rattle.std.specs.Prelude.{ℕ, ◌<◌, Option, Some, IfSome}
+use Rattle.std.specs.Prelude.{◌≡◌, ℕ, ◌<◌, Option, Some, IfSome}
 use Rattle.mz_base.specs.declared.profile.Profile.{Profile}
+use Rattle.mz_book.specs.Account.{Account}
 use Rattle.mz_zone.specs.declared.fault.ReallocFault.{ReallocFault}
 use Rattle.mz_zone.specs.declared.fault.ReallocFault.TheVariants.{NotLive, Null}
 use Rattle.mz_zone.specs.Blocks.{BlockView}
@@ -23,3 +24,7 @@ pub record IsLeft (v : AtView) (p : Profile) (b : Option BlockView) : Type 0 whe
 abbrev pub block_in : ReallocFault → Option BlockView
 block_in (NotLive e) = Some e.block
 block_in (Null b e) = b
+
+-- what is known of nano's classes may differ, and nothing else
+pub record IsOpening (s t : Account) : Type 0 where
+  pub after : t ≡ record s { settled = t.settled; founds = t.founds; found = t.found }

@@ -3,7 +3,7 @@ ghost use Rattle.mz_base.specs.Limits.{IsWithinLimits, IsFrom};
 ghost use Rattle.mz_events.specs.declared.entry.Entry.{Entry as entry};
 ghost use Rattle.mz_zone.specs.Blocks.{BlockView, with_block_bytes};
 ghost use Rattle.mz_zone.specs.Calling.{seen, CanCall, Goes, IsHandedIn};
-ghost use Rattle.mz_zone.specs.Tested.{tested, IsReady, IsLeft, block_in};
+ghost use Rattle.mz_zone.specs.Tested.{tested, IsReady, IsLeft, IsOpening, block_in};
 
 use crate::laws::of_zones;
 use crate::{At, Block, ReallocFault, SizeFault, Zone};
@@ -20,6 +20,7 @@ use std::test::Fail;
 
 mod calls;
 mod moves;
+mod nano;
 mod refusals;
 
 const TINY: Place = Place::Tiny { zone: 0, mag: 0 };
@@ -48,6 +49,8 @@ enum Step {
     Make(Request),
     // The block that is made is left alone.
     Leave(u64),
+    // Blocks of so many bytes are made, so many, and left alone. None is at hand then.
+    Batch(u64, u64),
     Realloc(u64),
     Free,
     FreeOfSize(u64),
@@ -58,6 +61,10 @@ enum Step {
 enum Answer {
     // A block with this first address and so many bytes. It shows what it should.
     Block(u64, u64),
+    // So many blocks came.
+    Blocks(usize),
+    // So many blocks came, and then none.
+    NoMore(usize),
     Freed,
     // The number of a refusal. A block that was handed in came back as it was.
     Refused(u8),
@@ -125,13 +132,13 @@ fn zeros(request: Request) -> u64 {
     }
 }
 
-// Makes room for the entries of a call.
-fn make_room(zone: &Zone, at: &mut At<PlainBook<Keeper>>) -> Result<(), AllocError>
+// Makes room for so many entries.
+fn make_room(zone: &Zone, at: &mut At<PlainBook<Keeper>>, n: u64) -> Result<(), AllocError>
     requires { IsReady (seen ⟦<PlainBook<Keeper> as Book<Keeper>>⟧.account at.old) zone.now.profile 0 }
-    ensures ready { IfOk result (λ u. IsReady (seen ⟦<PlainBook<Keeper> as Book<Keeper>>⟧.account at.new) zone.now.profile 40) }
+    ensures ready { IfOk result (λ u. IsReady (seen ⟦<PlainBook<Keeper> as Book<Keeper>>⟧.account at.new) zone.now.profile n) }
     ensures held { IfOk result (λ u. (b : BlockView) → IsHandedIn (seen ⟦<PlainBook<Keeper> as Book<Keeper>>⟧.account at.old) b → IsHandedIn (seen ⟦<PlainBook<Keeper> as Book<Keeper>>⟧.account at.new) b) }
 {
-    at.book.reserve(40)
+    at.book.reserve(n)
 }
 
 // Makes a block, or says by which number that was refused.
@@ -177,7 +184,7 @@ fn put_at_hand<R: Wait>(
     requires ready { IsReady (seen ⟦<PlainBook<Keeper> as Book<Keeper>>⟧.account at.old) zone.now.profile 0 }
     ensures { IfOk result (λ r. IsLeft (seen ⟦<PlainBook<Keeper> as Book<Keeper>>⟧.account at.new) zone.now.profile r.0) }
 {
-    make_room(zone, at)?;
+    make_room(zone, at, 40)?;
     let mut b = match make(rt, zone, at, request) {
         Ok(b) => b,
         Err(number) => return Ok((None, Answer::Refused(number))),
@@ -204,10 +211,32 @@ fn leave<R: Wait>(
     ensures { IfOk result (λ r. IsLeft (seen ⟦<PlainBook<Keeper> as Book<Keeper>>⟧.account at.new) zone.now.profile r.0) }
 {
     of_zones();
-    make_room(zone, at)?;
+    make_room(zone, at, 40)?;
     match zone.malloc(rt, at, n) {
         Ok(b) => Ok((held, Answer::Block(b.first(), b.size()))),
         Err(null) => Ok((None, Answer::Refused(null.number()))),
+    }
+}
+
+// Makes blocks, which are left alone, as the one at hand.
+fn batch<R: Wait>(
+    rt: &R,
+    alloc: Global,
+    zone: &Zone,
+    at: &mut At<PlainBook<Keeper>>,
+    n: u64,
+    count: u64,
+) -> Result<(Option<Block>, Answer), AllocError>
+    requires zone { zone.now.zone < zone.now.profile.zones }
+    requires ready { IsReady (seen ⟦<PlainBook<Keeper> as Book<Keeper>>⟧.account at.old) zone.now.profile 0 }
+    requires few { count ≤ 64 }
+    ensures { IfOk result (λ r. IsLeft (seen ⟦<PlainBook<Keeper> as Book<Keeper>>⟧.account at.new) zone.now.profile r.0) }
+{
+    make_room(zone, at, 40 * count)?;
+    let mut out = Vec::with_capacity(alloc, count as usize)?;
+    match zone.batch_malloc(rt, at, n, count, &mut out) {
+        Ok(()) => Ok((None, Answer::Blocks(out.len()))),
+        Err(_null) => Ok((None, Answer::NoMore(out.len()))),
     }
 }
 
@@ -244,7 +273,7 @@ fn realloc<R: Wait>(
     ensures { IfOk result (λ r. IsLeft (seen ⟦<PlainBook<Keeper> as Book<Keeper>>⟧.account at.new) zone.now.profile r.0) }
 {
     of_zones();
-    make_room(zone, at)?;
+    make_room(zone, at, 40)?;
     let was = match &held {
         Some(b) => mark_of(b),
         None => Mark { first: 0, size: 0 },
@@ -289,7 +318,7 @@ fn free<R: Wait>(
     ensures { IfOk result (λ r. IsLeft (seen ⟦<PlainBook<Keeper> as Book<Keeper>>⟧.account at.new) zone.now.profile r.0) }
 {
     of_zones();
-    make_room(zone, at)?;
+    make_room(zone, at, 40)?;
     let was = mark_of(&b);
     match zone.free(rt, at, b) {
         Ok(()) => Ok((None, Answer::Freed)),
@@ -314,7 +343,7 @@ fn free_of_size<R: Wait>(
     ensures { IfOk result (λ r. IsLeft (seen ⟦<PlainBook<Keeper> as Book<Keeper>>⟧.account at.new) zone.now.profile r.0) }
 {
     of_zones();
-    make_room(zone, at)?;
+    make_room(zone, at, 40)?;
     let was = mark_of(&b);
     let fault = match zone.free_definite_size(rt, at, b, n) {
         Ok(()) => return Ok((None, Answer::Freed)),
@@ -335,6 +364,7 @@ fn free_of_size<R: Wait>(
 // Does a step. Another one can be done then.
 fn go<R: Wait>(
     rt: &R,
+    alloc: Global,
     zone: &Zone,
     at: &mut At<PlainBook<Keeper>>,
     held: Option<Block>,
@@ -347,6 +377,7 @@ fn go<R: Wait>(
     match (step, held) {
         (Step::Make(request), _) => put_at_hand(rt, zone, at, request),
         (Step::Leave(n), held) => leave(rt, zone, at, held, n),
+        (Step::Batch(n, count), _) => batch(rt, alloc, zone, at, n, count.min(64)),
         (Step::Realloc(n), held) => realloc(rt, zone, at, held, n),
         (Step::Free, Some(b)) => free(rt, zone, at, b),
         (Step::FreeOfSize(n), Some(b)) => free_of_size(rt, zone, at, b, n),
@@ -354,27 +385,29 @@ fn go<R: Wait>(
     }
 }
 
-// Does these steps, each of which has its answer, and sees that they made these events.
-fn go_through<R: Wait + Abort>(
+// Does these steps, each of which has its answer, and answers the block that is at hand then.
+fn go_on<R: Wait + Abort>(
     rt: &R,
+    alloc: Global,
     zone: &Zone,
     at: &mut At<PlainBook<Keeper>>,
+    first: Option<Block>,
     steps: &[(Step, Answer)],
-    events: &[Event],
-) -> Result<(), AllocError>
+) -> Result<Option<Block>, AllocError>
     requires zone { zone.now.zone < zone.now.profile.zones }
-    requires ready { IsReady (seen ⟦<PlainBook<Keeper> as Book<Keeper>>⟧.account at.old) zone.now.profile 0 }
+    requires left { IsLeft (seen ⟦<PlainBook<Keeper> as Book<Keeper>>⟧.account at.old) zone.now.profile first }
+    ensures { IfOk result (IsLeft (seen ⟦<PlainBook<Keeper> as Book<Keeper>>⟧.account at.new) zone.now.profile) }
 {
-    let mut held = None;
+    let mut held = first;
     for (step, right) in steps {
-        let (next, answer) = go(rt, zone, at, held, *step)?;
+        let (next, answer) = go(rt, alloc, zone, at, held, *step)?;
         assert_eq!(rt; answer, *right, "at {step:?}");
         held = next;
     }
-    see_events(rt, at.book.history(), events);
-    Ok(())
+    Ok(held)
 }
 
+// Sees that these events were noted, and no others.
 fn see_events<R: Abort>(rt: &R, history: &[Entry], events: &[Event]) {
     for (entry, event) in history.iter().zip(events) {
         assert_eq!(rt; entry.event, *event, "at {entry:?}");
@@ -418,31 +451,33 @@ fn without_nano<R: Wait + Abort>(
         book: &mut book,
         nano: None,
     };
-    go_through(rt, &zone, &mut at, steps, events)?;
+    go_on(rt, alloc, &zone, &mut at, None, steps)?;
+    see_events(rt, at.book.history(), events);
     Ok(())
 }
 
-// Does the steps in a space of so many pages, the last of which are nano's.
+// Does the steps in a space of so many pages, of which the last two are nano's. The first of these has a class
+// already, where one is given. Answers how often a slot was popped, and how often there was none.
 fn with_nano<R: Wait + Abort>(
     rt: &R,
     alloc: Global,
     pages: u64,
-    nano: u64,
+    class: Option<u64>,
     steps: &[(Step, Answer)],
     events: &[Event],
-) -> Result<(), Fail>
-    requires pages { IsFrom 1 16384 pages }
-    requires nano { IsFrom 1 1024 nano }
-    requires within { nano ≤ pages }
+) -> Result<(u64, u64), Fail>
+    requires pages { IsFrom 2 16384 pages }
+    requires class { IfSome class (λ c. (1 ≤ c) × (c ≤ 16)) }
 {
-    let p = profile(pages, nano);
+    let p = profile(pages, 2);
     let span = Space::new(alloc, p.pages)?;
     let (low, high) = span.split((p.pages - p.nano) * 16_384);
     let keepers = Keeper::all(alloc, &p, low)?;
     let mut book = PlainBook::new(alloc, &p, keepers)?;
+    settle_first(&mut book, class);
     let (nano, mut seats) = Nano::open(alloc, high, p.most_gen, p.callers)?;
     let Some(mut seat) = seats.pop() else {
-        return Err(Fail::new("one seat"));
+        return Err(Fail::new("there are two seats"));
     };
     let zone = Zone::new(alloc, &p, 0)?;
     let there = Some((&nano, &mut seat));
@@ -450,8 +485,20 @@ fn with_nano<R: Wait + Abort>(
         book: &mut book,
         nano: there,
     };
-    go_through(rt, &zone, &mut at, steps, events)?;
-    Ok(())
+    go_on(rt, alloc, &zone, &mut at, None, steps)?;
+    see_events(rt, at.book.history(), events);
+    Ok((seat.tries(), seat.misses()))
+}
+
+// Gives nano's first page a class, where there is one.
+fn settle_first(book: &mut PlainBook<Keeper>, class: Option<u64>)
+    requires pages { 1 ≤ (⟦<PlainBook<Keeper> as Book<Keeper>>⟧.account book.old).profile.nano }
+    requires class { IfSome class (λ c. (1 ≤ c) × (c ≤ 16)) }
+    ensures { IsOpening (⟦<PlainBook<Keeper> as Book<Keeper>>⟧.account book.old) (⟦<PlainBook<Keeper> as Book<Keeper>>⟧.account book.new) }
+{
+    if let Some(class) = class {
+        let _ = book.settle(0, class);
+    }
 }
 
 fn full(k: Place, n: u64) -> Event {

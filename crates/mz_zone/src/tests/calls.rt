@@ -1,7 +1,8 @@
 use super::{
-    Answer, Request, SMALL, SMALL_DEPOT, Step, TINY, TINY_DEPOT, end, full, new, new_at, take,
-    with_nano, without_nano,
+    Answer, LARGE, Request, SMALL, SMALL_DEPOT, Step, TINY, TINY_DEPOT, dry, end, full, new, new_at,
+    profile, take, with_nano, without_nano,
 };
+use crate::Zone;
 use mz_events::Place;
 use std::test::Fail;
 
@@ -127,7 +128,9 @@ fn nano_serves_small_requests_and_the_rack_the_others(rt: HostRuntime) -> Result
         new_at(TINY, 16_384, 64, 16_384),
         end(TINY, 16_384, 64),
     ];
-    with_nano(&rt, rt.alloc(), 130, 2, &steps, &events)
+    let counts = with_nano(&rt, rt.alloc(), 130, None, &steps, &events)?;
+    assert_eq!(rt; counts, (5, 1));
+    Ok(())
 }
 
 #[test]
@@ -152,4 +155,65 @@ fn small_requests(rt: HostRuntime) -> Result<(), Fail> {
         new_at(SMALL, 49_152, 2_048, 16_384),
     ];
     without_nano(&rt, rt.alloc(), 512, &steps, &events)
+}
+
+#[test]
+fn batches(rt: HostRuntime) -> Result<(), Fail> {
+    let steps = [
+        (Step::Batch(0, 0), Answer::Blocks(0)),
+        (Step::Batch(1_000, 2), Answer::Blocks(2)),
+        (Step::Batch(700_000, 2), Answer::NoMore(1)),
+    ];
+    let events = [
+        full(TINY, 1_008),
+        full(TINY_DEPOT, 1_008),
+        take(TINY, 0, 64),
+        new(TINY, 0, 1_008),
+        new(TINY, 1_008, 1_008),
+        full(LARGE, 43),
+        take(LARGE, 64, 43),
+        new(LARGE, 1_048_576, 704_512),
+        full(LARGE, 43),
+        dry(43, 1),
+    ];
+    without_nano(&rt, rt.alloc(), 128, &steps, &events)
+}
+
+// Nano's pages are 64 and 65.
+#[test]
+fn batches_of_nano(rt: HostRuntime) -> Result<(), Fail> {
+    let steps = [
+        (Step::Batch(256, 2), Answer::Blocks(2)),
+        (
+            Step::Make(Request::Malloc(256)),
+            Answer::Block(1_049_088, 256),
+        ),
+    ];
+    let events = [
+        new(Place::Nano, 1_048_576, 256),
+        new(Place::Nano, 1_048_832, 256),
+        new(Place::Nano, 1_049_088, 256),
+    ];
+    let counts = with_nano(&rt, rt.alloc(), 66, None, &steps, &events)?;
+    assert_eq!(rt; counts, (3, 0));
+    Ok(())
+}
+
+#[test]
+fn boundaries(rt: HostRuntime) -> Result<(), Fail> {
+    let zone = Zone::new(rt.alloc(), &profile(64, 0), 0)?;
+    let sizes = [
+        (256, Some(256)),
+        (257, Some(272)),
+        (1_008, Some(1_008)),
+        (1_009, Some(1_024)),
+        (32_768, Some(32_768)),
+        (32_769, Some(49_152)),
+        (1_048_576, Some(1_048_576)),
+        (1_048_577, None),
+    ];
+    for (n, size) in sizes {
+        assert_eq!(rt; zone.good_size(n), size, "of {n}");
+    }
+    Ok(())
 }

@@ -196,7 +196,9 @@ fn a_block_of_nano(rt: HostRuntime) -> Result<(), Fail> {
         new(Place::Nano, 2_113_552, 16),
         end(TINY, 0, 64),
     ];
-    with_nano(&rt, rt.alloc(), 130, 2, &steps, &events)
+    let counts = with_nano(&rt, rt.alloc(), 130, None, &steps, &events)?;
+    assert_eq!(rt; counts, (5, 0));
+    Ok(())
 }
 
 // Nano's pages are 64 and 65.
@@ -226,7 +228,9 @@ fn a_block_comes_back_where_no_place_has_room(rt: HostRuntime) -> Result<(), Fai
         dry(3, 1),
         end(TINY, 0, 272),
     ];
-    with_nano(&rt, rt.alloc(), 66, 2, &steps, &events)
+    let counts = with_nano(&rt, rt.alloc(), 66, None, &steps, &events)?;
+    assert_eq!(rt; counts, (1, 0));
+    Ok(())
 }
 
 #[test]

@@ -1,0 +1,107 @@
+//! Slots that can't be blocks, and two seats of one nano.
+ghost use Rattle.std.specs.Prelude.{◌≡◌, ℕ, ◌<◌, ◌≤◌, List, IfOk};
+ghost use Rattle.mz_zone.specs.Calling.{with_seat};
+ghost use Rattle.mz_zone.specs.Tested.{IsReady};
+
+use super::{
+    Answer, Request, Step, TINY, TINY_DEPOT, end, full, new, profile, see_events, take, with_nano,
+};
+use crate::{At, Zone};
+use mz_book::{Book, PlainBook};
+use mz_events::Place;
+use mz_ground::Space;
+use mz_nano::{Nano, NanoSeat};
+use mz_rack::Keeper;
+use std::alloc::AllocError;
+use std::sync::Wait;
+use std::test::Fail;
+
+// Nano's pages are 64 and 65. Another caller noted class 5 for the first, of which nano makes one of class 4: its slot is
+// popped and goes back, each time anew.
+#[test]
+fn a_slot_of_another_class_goes_back(rt: HostRuntime) -> Result<(), Fail> {
+    let steps = [
+        (Step::Make(Request::Malloc(60)), Answer::Block(0, 64)),
+        (Step::Make(Request::Malloc(60)), Answer::Block(64, 64)),
+        (
+            Step::Make(Request::Malloc(80)),
+            Answer::Block(1_064_960, 80),
+        ),
+        (Step::Realloc(64), Answer::Block(128, 64)),
+    ];
+    let events = [
+        full(TINY, 64),
+        full(TINY_DEPOT, 64),
+        take(TINY, 0, 64),
+        new(TINY, 0, 64),
+        new(TINY, 64, 64),
+        new(Place::Nano, 1_064_960, 80),
+        new(TINY, 128, 64),
+        end(Place::Nano, 1_064_960, 80),
+    ];
+    let counts = with_nano(&rt, rt.alloc(), 66, Some(5), &steps, &events)?;
+    assert_eq!(rt; counts, (4, 0));
+    Ok(())
+}
+
+// A caller makes a block with its seat, and frees it if it is to. Answers the block's first address.
+fn take_turn<R: Wait>(
+    rt: &R,
+    zone: &Zone,
+    book: &mut PlainBook<Keeper>,
+    nano: &Nano,
+    seat: &mut NanoSeat,
+    frees: bool,
+) -> Result<Option<u64>, AllocError> {
+    book.act_as(seat.number());
+    book.reserve(80)?;
+    let there = Some((nano, seat));
+    let mut at = At { book, nano: there };
+    let Ok(b) = zone.malloc(rt, &mut at, 60) else {
+        return Ok(None);
+    };
+    let first = b.first();
+    if frees {
+        let Ok(()) = zone.free(rt, &mut at, b) else {
+            return Ok(None);
+        };
+    }
+    Ok(Some(first))
+}
+
+// Each seat goes on where the other one left nano.
+#[test]
+fn two_seats_in_turn(rt: HostRuntime) -> Result<(), Fail> {
+    let p = profile(66, 2);
+    let span = Space::new(rt.alloc(), p.pages)?;
+    let (low, high) = span.split((p.pages - p.nano) * 16_384);
+    let keepers = Keeper::all(rt.alloc(), &p, low)?;
+    let mut book = PlainBook::new(rt.alloc(), &p, keepers)?;
+    let (nano, mut seats) = Nano::open(rt.alloc(), high, p.most_gen, p.callers)?;
+    let (Some(mut second), Some(mut first)) = (seats.pop(), seats.pop()) else {
+        return Err(Fail::new("there are two seats"));
+    };
+    let zone = Zone::new(rt.alloc(), &p, 0)?;
+    let a = take_turn(&rt, &zone, &mut book, &nano, &mut first, true)?;
+    let b = take_turn(&rt, &zone, &mut book, &nano, &mut second, false)?;
+    let c = take_turn(&rt, &zone, &mut book, &nano, &mut first, false)?;
+    let d = take_turn(&rt, &zone, &mut book, &nano, &mut second, true)?;
+    assert_eq!(rt; (a, b), (Some(1_048_576), Some(1_048_576)));
+    assert_eq!(rt; (c, d), (Some(1_048_640), Some(1_048_704)));
+    assert_eq!(rt; (first.tries(), second.tries()), (2, 2));
+    assert_eq!(rt; (first.misses(), second.misses()), (0, 0));
+    let events = [
+        new(Place::Nano, 1_048_576, 64),
+        end(Place::Nano, 1_048_576, 64),
+        new(Place::Nano, 1_048_576, 64),
+        new(Place::Nano, 1_048_640, 64),
+        new(Place::Nano, 1_048_704, 64),
+        end(Place::Nano, 1_048_704, 64),
+    ];
+    see_events(&rt, book.history(), &events);
+    let callers = [0, 0, 1, 0, 1, 1];
+    for (entry, caller) in book.history().iter().zip(callers) {
+        assert_eq!(rt; entry.caller, caller);
+    }
+    Ok(())
+}

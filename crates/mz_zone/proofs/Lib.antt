@@ -14,4 +14,6 @@ pub mod Noted
 pub mod Moved
 pub mod InPlace
 pub mod Batched
-mod Tested
+pub mod Tested
+pub mod StillHandedIn
+pub mod TwoZones

@@ -1,6 +1,6 @@
 -- What the tests rest on: after a step another one can be done, and a block that was made can be handed in.
 use Rattle.std.proofs.Common.{◌≡◌, ℕ, ◌+◌, ◌*◌, ◌<◌, ◌≤◌, true, List, [], ◌∷◌, ◌++◌, Option, None, Some, length, refl, ap, sym, subst, ◌∙◌, arith, append-nil}
-use Rattle.std.specs.Prelude.{Result, Ok, Err, replicate}
+use Rattle.std.specs.Prelude.{Result, Ok, Err, IfSome, replicate}
 use Rattle.std.proofs.lemmas.List.{length-replicate}
 use Rattle.std.proofs.lemmas.Bool.{or_left, or_right, eq-eqb}
 use Rattle.mz_base.specs.declared.profile.Profile.{Profile}
@@ -25,7 +25,7 @@ use Rattle.mz_rack.specs.Serving.{CanServe}
 use Rattle.mz_zone.specs.Blocks.{BlockView, block_of, with_block_bytes, at_its_place}
 use Rattle.mz_zone.specs.Calling.{AtView, Seated, CanCall, Goes, IsHandedIn, IsSeatedAt, HasSlot, StaysSeated, seated, with_seat}
 use Rattle.mz_zone.specs.Answering.{Answers}
-use Rattle.mz_zone.specs.Tested.{tested, IsReady, IsLeft}
+use Rattle.mz_zone.specs.Tested.{tested, IsReady, IsOpening}
 use Rattle.mz_zone.specs.ZoneLaws.{ZoneLaws}
 use Rattle.mz_zone.proofs.Clearing.{whole_front}
 use Rattle.mz_zone.proofs.Moved.{can_then}
@@ -77,23 +77,23 @@ handed_with v t n b h more = record {
 pub ready_then : (v u : AtView) (p : Profile) (n : ℕ) (mine : List Entry) → IsReady v p n → Goes v mine u → IsReady u p 0
 ready_then v u p n mine ready goes = record { each = λ z below. can_then v u p z n 0 mine (ready.each z below) goes (omega arith) }
 
-same_itself : (b : Block) → same_block b b ≡ true
+pub same_itself : (b : Block) → same_block b b ≡ true
 same_itself b = rw (eq-eqb b.first b.first refl, eq-eqb b.size b.size refl) refl
 
-has_last : (bs : List Block) (b : Block) → has_block (bs ++ b ∷ []) b ≡ true
+pub has_last : (bs : List Block) (b : Block) → has_block (bs ++ b ∷ []) b ≡ true
 has_last [] b = or_left (same_block b b) _ (same_itself b)
 has_last (x ∷ bs) b = or_right (same_block b x) _ (has_last bs b)
 
 -- the hand after a call's entries
-hand_after : (laws : ZoneLaws) (v u : AtView) (mine : List Entry) → Goes v mine u → hand u.book ≡ hand_through (hand v.book) mine
-hand_after laws v u mine goes =
+pub hand_after_call : (laws : ZoneLaws) (v u : AtView) (mine : List Entry) → Goes v mine u → hand u.book ≡ hand_through (hand v.book) mine
+hand_after_call laws v u mine goes =
     ap (λ c. hand_among c u.book.pairs) goes.adds.same.caller
     ∙ (ap (hand_among v.book.caller) goes.adds.pairs ∙ laws.through v.book.caller v.book.pairs mine)
 
 -- a block that was made is in the hand
 pub handed : (laws : ZoneLaws) (v u : AtView) (z n al : ℕ) (b : BlockView) → Answers v z n al (Ok b) u → IsHandedIn u b
 handed laws v u z n al b a =
-    let hand_is : hand u.book ≡ hand v.book ++ block_of b ∷ [] = hand_after laws v u a.mine a.goes ∙ laws.hand_served _ _ _ a.mine _ (hand v.book) a.serves.served in
+    let hand_is : hand u.book ≡ hand v.book ++ block_of b ∷ [] = hand_after_call laws v u a.mine a.goes ∙ laws.hand_served _ _ _ a.mine _ (hand v.book) a.serves.served in
     record {
       in_hand = ap (λ hs. has_block hs (block_of b)) hand_is ∙ has_last (hand v.book) (block_of b);
       space = a.answer.1 ∙ sym a.goes.adds.same.site;
@@ -110,3 +110,49 @@ handed_marked v b x h =
       space = h.space;
       slot = h.slot;
     })
+
+-- a block that is known to be one that can be handed in
+pub some_handed : (w : AtView) (o : Option BlockView) (d : BlockView) → IfSome o (λ b. b ≡ d) → IsHandedIn w d → IfSome o (IsHandedIn w)
+some_handed w None d is h = tt
+some_handed w (Some b) d is h = subst (λ x. IsHandedIn w x) (sym is) h
+
+-- at first
+
+open_at_first : (p : Profile) → is_open (after_all p opening []) 0 ≡ true
+unfolding after_all
+open_at_first p = refl
+
+pub ready_first :
+    (s t : Account) (x : Site) (p q : Profile) (m : Option Seated) → s ≡ opening_account p x → IsOpening s t → q ≡ p → p.zones ≡ 1 → IsSeatedAt t m
+    → IsReady (record { book = t; nano = m }) q 0
+ready_first s t x p q m is opened same one seat = record {
+  each = λ z below.
+      let e : q.zones ≡ 1 = ap (λ (r : Profile). r.zones) same ∙ one in
+      let first : z ≡ 0 = omega (arith, e, below) in
+      let now : t ≡ record (opening_account p x) { settled = t.settled; founds = t.founds; found = t.found } =
+      opened.after ∙ ap (λ (u : Account). record u { settled = t.settled; founds = t.founds; found = t.found }) is in
+      let can : CanServe (record (opening_account p x) { settled = t.settled; founds = t.founds; found = t.found }) p 0 0 =
+      record { profile = refl; zone_open = open_at_first p; nothing_held = record { keepers = refl; lights = refl }; room = omega arith } in
+      record { serve = subst (λ y. CanServe t q y 0) (sym first) (subst (λ r. CanServe t r 0 0) (sym same) (subst (λ u. CanServe u p 0 0) (sym now) can)); nano = seat };
+}
+
+pub seated_first :
+    (s t : Account) (x : Site) (p : Profile) (nano : Nano) (seat : NanoSeat) → s ≡ opening_account p x → IsOpening s t → SitsAt nano seat
+    → first_of nano ≡ nano_start p * PAGE → blocks_of nano ≡ p.nano → space_of nano ≡ x → IsSeatedAt t (Some (record { nano = nano; seat = seat }))
+seated_first s t x p nano seat is opened sits first blocks space =
+    let profile : t.profile ≡ p = ap (λ (u : Account). u.profile) opened.after ∙ ap (λ (u : Account). u.profile) is in
+    let site : t.site ≡ x = ap (λ (u : Account). u.site) opened.after ∙ ap (λ (u : Account). u.site) is in
+    record {
+      seat = sits;
+      first = first ∙ sym (ap (λ (q : Profile). nano_start q * PAGE) profile);
+      blocks = blocks ∙ sym (ap (λ (q : Profile). q.nano) profile);
+      space = space ∙ sym site;
+    }
+
+-- the last seat of new ones is one of their nano, and those before it are new
+pub last_sits : (nano : Nano) (xs ys : List NanoSeat) (x : NanoSeat) → xs ≡ ys ++ x ∷ [] → AllNew nano.table.shared.table_id nano.table.shared.key 0 xs → SitsAt nano x
+last_sits nano xs ys x e news = of_last ys 0 (subst (λ ss. AllNew nano.table.shared.table_id nano.table.shared.key 0 ss) e news)
+  where
+    of_last : (ss : List NanoSeat) (k : ℕ) → AllNew nano.table.shared.table_id nano.table.shared.key k (ss ++ x ∷ []) → SitsAt nano x
+    of_last [] k a = (a.0.one, a.0.parts)
+    of_last (s ∷ ss) k a = of_last ss (k + 1) a.1

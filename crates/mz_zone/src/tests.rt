@@ -2,7 +2,7 @@ ghost use Rattle.std.specs.Prelude.{◌≡◌, ℕ, ◌<◌, ◌≤◌, List, So
 ghost use Rattle.mz_base.specs.Limits.{IsWithinLimits, IsFrom};
 ghost use Rattle.mz_events.specs.declared.entry.Entry.{Entry as entry};
 ghost use Rattle.mz_zone.specs.Blocks.{BlockView, with_block_bytes};
-ghost use Rattle.mz_zone.specs.Calling.{seen, CanCall, Goes, IsHandedIn};
+ghost use Rattle.mz_zone.specs.Calling.{seen, AtView, CanCall, Goes, IsHandedIn};
 ghost use Rattle.mz_zone.specs.Tested.{tested, IsReady, IsLeft, IsOpening, block_in};
 
 use crate::laws::of_zones;
@@ -113,7 +113,10 @@ fn fill(bytes: &mut [u8], x: u8)
     bytes.fill(x);
 }
 
-fn mark_of(block: &Block) -> Mark {
+fn mark_of(block: &Block) -> Mark
+    ensures first { result.first ≡ block.now.span.first }
+    ensures size { result.size ≡ length block.now.span.bytes }
+{
     Mark {
         first: block.first(),
         size: block.size(),
@@ -139,7 +142,8 @@ fn make_room(zone: &Zone, at: &mut At<PlainBook<Keeper>>, n: u64) -> Result<(), 
     ensures ready { IfOk result (λ u. IsReady (seen ⟦<PlainBook<Keeper> as Book<Keeper>>⟧.account at.new) zone.now.profile n) }
     ensures held { IfOk result (λ u. (b : BlockView) → IsHandedIn (seen ⟦<PlainBook<Keeper> as Book<Keeper>>⟧.account at.old) b → IsHandedIn (seen ⟦<PlainBook<Keeper> as Book<Keeper>>⟧.account at.new) b) }
 {
-    at.book.reserve(n)
+    at.book.reserve(n)?;
+    Ok(())
 }
 
 // Makes a block, or says by which number that was refused.
@@ -174,6 +178,17 @@ fn make<R: Wait>(
     }
 }
 
+// A block that came is marked, and at hand then.
+fn marked(block: Block) -> (Option<Block>, Answer)
+    ensures { (v : AtView) → IsHandedIn v block → IfSome result.0 (IsHandedIn v) }
+{
+    let mut b = block;
+    let x = byte_at(b.first());
+    mark(&mut b, x);
+    let answer = Answer::Block(b.first(), b.size());
+    (Some(b), answer)
+}
+
 // Makes a block, marks it, and puts it in place of the one at hand.
 fn put_at_hand<R: Wait>(
     rt: &R,
@@ -186,17 +201,14 @@ fn put_at_hand<R: Wait>(
     ensures { IfOk result (λ r. IsLeft (seen ⟦<PlainBook<Keeper> as Book<Keeper>>⟧.account at.new) zone.now.profile r.0) }
 {
     make_room(zone, at, 40)?;
-    let mut b = match make(rt, zone, at, request) {
+    let b = match make(rt, zone, at, request) {
         Ok(b) => b,
         Err(number) => return Ok((None, Answer::Refused(number))),
     };
     if !shows(&b, zeros(request), 0) {
         return Ok((None, Answer::Spoiled));
     }
-    let x = byte_at(b.first());
-    mark(&mut b, x);
-    let answer = Answer::Block(b.first(), b.size());
-    Ok((Some(b), answer))
+    Ok(marked(b))
 }
 
 // Makes a block and leaves it alone.
@@ -261,7 +273,27 @@ fn come_back(block: Block, was: Mark, number: u8) -> (Option<Block>, Answer)
     }
 }
 
-// Gives the block at hand another size, and marks it anew.
+// Where no block is at hand this makes one.
+fn realloc_none<R: Wait>(
+    rt: &R,
+    zone: &Zone,
+    at: &mut At<PlainBook<Keeper>>,
+    n: u64,
+) -> Result<(Option<Block>, Answer), AllocError>
+    requires zone { zone.now.zone < zone.now.profile.zones }
+    requires ready { IsReady (seen ⟦<PlainBook<Keeper> as Book<Keeper>>⟧.account at.old) zone.now.profile 0 }
+    ensures { IfOk result (λ r. IsLeft (seen ⟦<PlainBook<Keeper> as Book<Keeper>>⟧.account at.new) zone.now.profile r.0) }
+{
+    of_zones();
+    make_room(zone, at, 40)?;
+    match zone.realloc(rt, at, None, n) {
+        Ok(b) => Ok(marked(b)),
+        Err(fault) => Ok((None, Answer::Refused(fault.number()))),
+    }
+}
+
+// Gives the block at hand another size, and marks it anew. A block that is where it was, of the same size, stayed
+// there without an entry.
 fn realloc<R: Wait>(
     rt: &R,
     zone: &Zone,
@@ -274,22 +306,22 @@ fn realloc<R: Wait>(
     ensures { IfOk result (λ r. IsLeft (seen ⟦<PlainBook<Keeper> as Book<Keeper>>⟧.account at.new) zone.now.profile r.0) }
 {
     of_zones();
-    make_room(zone, at, 40)?;
-    let was = match &held {
-        Some(b) => mark_of(b),
-        None => Mark { first: 0, size: 0 },
+    let Some(b) = held else {
+        return realloc_none(rt, zone, at, n);
     };
-    let mut b = match zone.realloc(rt, at, held, n) {
-        Ok(b) => b,
+    make_room(zone, at, 40)?;
+    let was = mark_of(&b);
+    let before = at.book.history().len();
+    let new = match zone.realloc(rt, at, Some(b), n) {
+        Ok(new) => new,
         Err(fault) => return Ok(unchanged(fault, was)),
     };
-    if !shows(&b, kept(was, &b, n), byte_at(was.first)) {
+    let same = mark_of(&new) == was;
+    let noted = at.book.history().len() > before;
+    if same && noted || !shows(&new, kept(was, &new, n), byte_at(was.first)) {
         return Ok((None, Answer::Spoiled));
     }
-    let x = byte_at(b.first());
-    mark(&mut b, x);
-    let answer = Answer::Block(b.first(), b.size());
-    Ok((Some(b), answer))
+    Ok(marked(new))
 }
 
 // What comes back where a block got no other size.
@@ -311,14 +343,16 @@ fn free<R: Wait>(
     rt: &R,
     zone: &Zone,
     at: &mut At<PlainBook<Keeper>>,
-    b: Block,
+    held: Option<Block>,
 ) -> Result<(Option<Block>, Answer), AllocError>
     requires zone { zone.now.zone < zone.now.profile.zones }
-    requires ready { IsReady (seen ⟦<PlainBook<Keeper> as Book<Keeper>>⟧.account at.old) zone.now.profile 0 }
-    requires block { IsHandedIn (seen ⟦<PlainBook<Keeper> as Book<Keeper>>⟧.account at.old) b }
+    requires left { IsLeft (seen ⟦<PlainBook<Keeper> as Book<Keeper>>⟧.account at.old) zone.now.profile held }
     ensures { IfOk result (λ r. IsLeft (seen ⟦<PlainBook<Keeper> as Book<Keeper>>⟧.account at.new) zone.now.profile r.0) }
 {
     of_zones();
+    let Some(b) = held else {
+        return Ok((None, Answer::NothingAtHand));
+    };
     make_room(zone, at, 40)?;
     let was = mark_of(&b);
     match zone.free(rt, at, b) {
@@ -335,15 +369,17 @@ fn free_of_size<R: Wait>(
     rt: &R,
     zone: &Zone,
     at: &mut At<PlainBook<Keeper>>,
-    b: Block,
+    held: Option<Block>,
     n: u64,
 ) -> Result<(Option<Block>, Answer), AllocError>
     requires zone { zone.now.zone < zone.now.profile.zones }
-    requires ready { IsReady (seen ⟦<PlainBook<Keeper> as Book<Keeper>>⟧.account at.old) zone.now.profile 0 }
-    requires block { IsHandedIn (seen ⟦<PlainBook<Keeper> as Book<Keeper>>⟧.account at.old) b }
+    requires left { IsLeft (seen ⟦<PlainBook<Keeper> as Book<Keeper>>⟧.account at.old) zone.now.profile held }
     ensures { IfOk result (λ r. IsLeft (seen ⟦<PlainBook<Keeper> as Book<Keeper>>⟧.account at.new) zone.now.profile r.0) }
 {
     of_zones();
+    let Some(b) = held else {
+        return Ok((None, Answer::NothingAtHand));
+    };
     make_room(zone, at, 40)?;
     let was = mark_of(&b);
     let fault = match zone.free_definite_size(rt, at, b, n) {
@@ -375,14 +411,13 @@ fn go<R: Wait>(
     requires left { IsLeft (seen ⟦<PlainBook<Keeper> as Book<Keeper>>⟧.account at.old) zone.now.profile held }
     ensures { IfOk result (λ r. IsLeft (seen ⟦<PlainBook<Keeper> as Book<Keeper>>⟧.account at.new) zone.now.profile r.0) }
 {
-    match (step, held) {
-        (Step::Make(request), _) => put_at_hand(rt, zone, at, request),
-        (Step::Leave(n), held) => leave(rt, zone, at, held, n),
-        (Step::Batch(n, count), _) => batch(rt, alloc, zone, at, n, count.min(64)),
-        (Step::Realloc(n), held) => realloc(rt, zone, at, held, n),
-        (Step::Free, Some(b)) => free(rt, zone, at, b),
-        (Step::FreeOfSize(n), Some(b)) => free_of_size(rt, zone, at, b, n),
-        (_, None) => Ok((None, Answer::NothingAtHand)),
+    match step {
+        Step::Make(request) => put_at_hand(rt, zone, at, request),
+        Step::Leave(n) => leave(rt, zone, at, held, n),
+        Step::Batch(n, count) => batch(rt, alloc, zone, at, n, count.min(64)),
+        Step::Realloc(n) => realloc(rt, zone, at, held, n),
+        Step::Free => free(rt, zone, at, held),
+        Step::FreeOfSize(n) => free_of_size(rt, zone, at, held, n),
     }
 }
 

@@ -38,7 +38,7 @@ fn open_zone<B: Book<Keeper>, R: Wait>(rt: &R, book: &mut B, n: usize)
     book.release(5 + n, keeper);
 }
 
-// Of two zones. The first two of its 130 pages are nano's.
+// Of two zones and 130 pages, of which the last two are nano's.
 fn two_zones() -> Profile
     ensures limits { IsWithinLimits result }
     ensures same { result ≡ tested 130 2 2 }
@@ -53,7 +53,7 @@ fn two_zones() -> Profile
     }
 }
 
-// What a block of zone 1 makes and what denies it, behind what one of zone 0 does.
+// A block of zone 0 is denied in zone 1, and one of zone 1 in zone 0. Behind it each ends in its own zone.
 fn events() -> [Event; 13] {
     let no = |k, zone, a, s| Event::No { k, zone, a, s };
     let (n, al) = (64, 16);

@@ -1,17 +1,19 @@
 ghost use Rattle.std.specs.Prelude.{◌≡◌, ℕ, ◌<◌, ◌≤◌, List, Some, length, replicate, IfOk, IfSome};
 ghost use Rattle.mz_base.specs.Limits.{IsWithinLimits, IsFrom};
 ghost use Rattle.mz_events.specs.declared.entry.Entry.{Entry as entry};
-ghost use Rattle.mz_zone.specs.Blocks.{BlockView, with_block_bytes};
+ghost use Rattle.mz_zone.specs.Blocks.{BlockView, of_slot, with_block_bytes};
 ghost use Rattle.mz_zone.specs.Calling.{seen, AtView, CanCall, Goes, IsHandedIn};
 ghost use Rattle.mz_zone.specs.Tested.{tested, IsReady, IsLeft, IsOpening, block_in};
 
+use crate::block::Inner;
 use crate::laws::of_zones;
+use crate::nano::put_back;
 use crate::{At, Block, ReallocFault, SizeFault, Zone};
 use mz_base::Profile;
 use mz_book::{Book, PlainBook};
 use mz_events::{Entry, Event, Place};
 use mz_ground::Space;
-use mz_nano::Nano;
+use mz_nano::{Nano, SlotSpan};
 use mz_rack::Keeper;
 use std::alloc::{AllocError, Global};
 use std::process::Abort;
@@ -55,6 +57,8 @@ enum Step {
     Realloc(u64),
     Free,
     FreeOfSize(u64),
+    // The slot of the block at hand is pushed, and the block stays live.
+    Push,
 }
 
 // How a step is answered.
@@ -67,6 +71,7 @@ enum Answer {
     // So many blocks came, and then none.
     NoMore(usize),
     Freed,
+    Pushed,
     // The number of a refusal. A block that was handed in came back as it was.
     Refused(u8),
     // The block that was handed in has so many bytes, and came back as it was.
@@ -196,8 +201,7 @@ fn put_at_hand<R: Wait>(
     at: &mut At<PlainBook<Keeper>>,
     request: Request,
 ) -> Result<(Option<Block>, Answer), AllocError>
-    requires zone { zone.now.zone < zone.now.profile.zones }
-    requires ready { IsReady (seen ⟦<PlainBook<Keeper> as Book<Keeper>>⟧.account at.old) zone.now.profile 0 }
+    requires { IsReady (seen ⟦<PlainBook<Keeper> as Book<Keeper>>⟧.account at.old) zone.now.profile 0 }
     ensures { IfOk result (λ r. IsLeft (seen ⟦<PlainBook<Keeper> as Book<Keeper>>⟧.account at.new) zone.now.profile r.0) }
 {
     make_room(zone, at, 40)?;
@@ -219,8 +223,7 @@ fn leave<R: Wait>(
     held: Option<Block>,
     n: u64,
 ) -> Result<(Option<Block>, Answer), AllocError>
-    requires zone { zone.now.zone < zone.now.profile.zones }
-    requires left { IsLeft (seen ⟦<PlainBook<Keeper> as Book<Keeper>>⟧.account at.old) zone.now.profile held }
+    requires { IsLeft (seen ⟦<PlainBook<Keeper> as Book<Keeper>>⟧.account at.old) zone.now.profile held }
     ensures { IfOk result (λ r. IsLeft (seen ⟦<PlainBook<Keeper> as Book<Keeper>>⟧.account at.new) zone.now.profile r.0) }
 {
     of_zones();
@@ -240,7 +243,6 @@ fn batch<R: Wait>(
     n: u64,
     count: u64,
 ) -> Result<(Option<Block>, Answer), AllocError>
-    requires zone { zone.now.zone < zone.now.profile.zones }
     requires ready { IsReady (seen ⟦<PlainBook<Keeper> as Book<Keeper>>⟧.account at.old) zone.now.profile 0 }
     requires few { count ≤ 64 }
     ensures { IfOk result (λ r. IsLeft (seen ⟦<PlainBook<Keeper> as Book<Keeper>>⟧.account at.new) zone.now.profile r.0) }
@@ -280,8 +282,7 @@ fn realloc_none<R: Wait>(
     at: &mut At<PlainBook<Keeper>>,
     n: u64,
 ) -> Result<(Option<Block>, Answer), AllocError>
-    requires zone { zone.now.zone < zone.now.profile.zones }
-    requires ready { IsReady (seen ⟦<PlainBook<Keeper> as Book<Keeper>>⟧.account at.old) zone.now.profile 0 }
+    requires { IsReady (seen ⟦<PlainBook<Keeper> as Book<Keeper>>⟧.account at.old) zone.now.profile 0 }
     ensures { IfOk result (λ r. IsLeft (seen ⟦<PlainBook<Keeper> as Book<Keeper>>⟧.account at.new) zone.now.profile r.0) }
 {
     of_zones();
@@ -301,8 +302,7 @@ fn realloc<R: Wait>(
     held: Option<Block>,
     n: u64,
 ) -> Result<(Option<Block>, Answer), AllocError>
-    requires zone { zone.now.zone < zone.now.profile.zones }
-    requires left { IsLeft (seen ⟦<PlainBook<Keeper> as Book<Keeper>>⟧.account at.old) zone.now.profile held }
+    requires { IsLeft (seen ⟦<PlainBook<Keeper> as Book<Keeper>>⟧.account at.old) zone.now.profile held }
     ensures { IfOk result (λ r. IsLeft (seen ⟦<PlainBook<Keeper> as Book<Keeper>>⟧.account at.new) zone.now.profile r.0) }
 {
     of_zones();
@@ -345,8 +345,7 @@ fn free<R: Wait>(
     at: &mut At<PlainBook<Keeper>>,
     held: Option<Block>,
 ) -> Result<(Option<Block>, Answer), AllocError>
-    requires zone { zone.now.zone < zone.now.profile.zones }
-    requires left { IsLeft (seen ⟦<PlainBook<Keeper> as Book<Keeper>>⟧.account at.old) zone.now.profile held }
+    requires { IsLeft (seen ⟦<PlainBook<Keeper> as Book<Keeper>>⟧.account at.old) zone.now.profile held }
     ensures { IfOk result (λ r. IsLeft (seen ⟦<PlainBook<Keeper> as Book<Keeper>>⟧.account at.new) zone.now.profile r.0) }
 {
     of_zones();
@@ -372,8 +371,7 @@ fn free_of_size<R: Wait>(
     held: Option<Block>,
     n: u64,
 ) -> Result<(Option<Block>, Answer), AllocError>
-    requires zone { zone.now.zone < zone.now.profile.zones }
-    requires left { IsLeft (seen ⟦<PlainBook<Keeper> as Book<Keeper>>⟧.account at.old) zone.now.profile held }
+    requires { IsLeft (seen ⟦<PlainBook<Keeper> as Book<Keeper>>⟧.account at.old) zone.now.profile held }
     ensures { IfOk result (λ r. IsLeft (seen ⟦<PlainBook<Keeper> as Book<Keeper>>⟧.account at.new) zone.now.profile r.0) }
 {
     of_zones();
@@ -398,6 +396,39 @@ fn free_of_size<R: Wait>(
     }
 }
 
+// Pushes the slot of the block at hand, which stays live.
+fn push<R: Wait>(
+    rt: &R,
+    zone: &Zone,
+    at: &mut At<PlainBook<Keeper>>,
+    held: Option<Block>,
+) -> Result<(Option<Block>, Answer), AllocError>
+    requires { IsLeft (seen ⟦<PlainBook<Keeper> as Book<Keeper>>⟧.account at.old) zone.now.profile held }
+    ensures { IfOk result (λ r. IsLeft (seen ⟦<PlainBook<Keeper> as Book<Keeper>>⟧.account at.new) zone.now.profile r.0) }
+{
+    let Some(b) = held else {
+        return Ok((None, Answer::NothingAtHand));
+    };
+    let Inner::Slot(slot) = b.inner else {
+        return Ok((None, Answer::NothingAtHand));
+    };
+    push_slot(rt, zone, at, slot);
+    Ok((None, Answer::Pushed))
+}
+
+// Pushes the slot of a block that stays live.
+fn push_slot<R: Wait>(rt: &R, zone: &Zone, at: &mut At<PlainBook<Keeper>>, slot: SlotSpan)
+    requires ready { IsReady (seen ⟦<PlainBook<Keeper> as Book<Keeper>>⟧.account at.old) zone.now.profile 0 }
+    requires block { IsHandedIn (seen ⟦<PlainBook<Keeper> as Book<Keeper>>⟧.account at.old) (of_slot slot) }
+    ensures { IsReady (seen ⟦<PlainBook<Keeper> as Book<Keeper>>⟧.account at.new) zone.now.profile 0 }
+{
+    let _ = zone;
+    let Some(both) = &mut at.nano else {
+        unreachable!()
+    };
+    put_back(rt, both.0, both.1, slot);
+}
+
 // Does a step. Another one can be done then.
 fn go<R: Wait>(
     rt: &R,
@@ -407,8 +438,7 @@ fn go<R: Wait>(
     held: Option<Block>,
     step: Step,
 ) -> Result<(Option<Block>, Answer), AllocError>
-    requires zone { zone.now.zone < zone.now.profile.zones }
-    requires left { IsLeft (seen ⟦<PlainBook<Keeper> as Book<Keeper>>⟧.account at.old) zone.now.profile held }
+    requires { IsLeft (seen ⟦<PlainBook<Keeper> as Book<Keeper>>⟧.account at.old) zone.now.profile held }
     ensures { IfOk result (λ r. IsLeft (seen ⟦<PlainBook<Keeper> as Book<Keeper>>⟧.account at.new) zone.now.profile r.0) }
 {
     match step {
@@ -418,6 +448,7 @@ fn go<R: Wait>(
         Step::Realloc(n) => realloc(rt, zone, at, held, n),
         Step::Free => free(rt, zone, at, held),
         Step::FreeOfSize(n) => free_of_size(rt, zone, at, held, n),
+        Step::Push => push(rt, zone, at, held),
     }
 }
 
@@ -430,8 +461,7 @@ fn go_on<R: Wait + Abort>(
     first: Option<Block>,
     steps: &[(Step, Answer)],
 ) -> Result<Option<Block>, AllocError>
-    requires zone { zone.now.zone < zone.now.profile.zones }
-    requires left { IsLeft (seen ⟦<PlainBook<Keeper> as Book<Keeper>>⟧.account at.old) zone.now.profile first }
+    requires { IsLeft (seen ⟦<PlainBook<Keeper> as Book<Keeper>>⟧.account at.old) zone.now.profile first }
     ensures { IfOk result (IsLeft (seen ⟦<PlainBook<Keeper> as Book<Keeper>>⟧.account at.new) zone.now.profile) }
 {
     let mut held = first;

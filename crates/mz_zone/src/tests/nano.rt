@@ -1,11 +1,12 @@
 //! Slots that can't be blocks, and two seats of one nano.
-ghost use Rattle.std.specs.Prelude.{◌≡◌, ℕ, ◌<◌, ◌≤◌, List, IfOk};
+ghost use Rattle.std.specs.Prelude.{◌<◌, IfOk};
 ghost use Rattle.mz_zone.specs.Calling.{with_seat};
 ghost use Rattle.mz_zone.specs.Tested.{IsReady};
 
 use super::{
     Answer, Request, Step, TINY, TINY_DEPOT, end, full, new, profile, see_events, take, with_nano,
 };
+use crate::laws::of_zones;
 use crate::{At, Zone};
 use mz_book::{Book, PlainBook};
 use mz_events::Place;
@@ -44,6 +45,31 @@ fn a_slot_of_another_class_goes_back(rt: HostRuntime) -> Result<(), Fail> {
     Ok(())
 }
 
+// Nano's pages are 64 and 65. The slot that is popped again is of a block that is live.
+#[test]
+fn a_slot_of_a_live_block_goes_back(rt: HostRuntime) -> Result<(), Fail> {
+    let steps = [
+        (
+            Step::Make(Request::Malloc(60)),
+            Answer::Block(1_048_576, 64),
+        ),
+        (Step::Push, Answer::Pushed),
+        (Step::Make(Request::Malloc(60)), Answer::Block(0, 64)),
+        (Step::Make(Request::Malloc(60)), Answer::Block(64, 64)),
+    ];
+    let events = [
+        new(Place::Nano, 1_048_576, 64),
+        full(TINY, 64),
+        full(TINY_DEPOT, 64),
+        take(TINY, 0, 64),
+        new(TINY, 0, 64),
+        new(TINY, 64, 64),
+    ];
+    let counts = with_nano(&rt, rt.alloc(), 66, None, &steps, &events)?;
+    assert_eq!(rt; counts, (3, 0));
+    Ok(())
+}
+
 // A caller makes a block with its seat, and frees it if it is to. Answers the block's first address.
 fn take_turn<R: Wait>(
     rt: &R,
@@ -51,9 +77,15 @@ fn take_turn<R: Wait>(
     book: &mut PlainBook<Keeper>,
     nano: &Nano,
     seat: &mut NanoSeat,
+    caller: u32,
     frees: bool,
-) -> Result<Option<u64>, AllocError> {
-    book.act_as(seat.number());
+) -> Result<Option<u64>, AllocError>
+    requires caller { caller < zone.now.profile.callers }
+    requires ready { IsReady (with_seat (⟦<PlainBook<Keeper> as Book<Keeper>>⟧.account book.old) nano.now seat.old) zone.now.profile 0 }
+    ensures { IfOk result (λ first. IsReady (with_seat (⟦<PlainBook<Keeper> as Book<Keeper>>⟧.account book.new) nano.now seat.new) zone.now.profile 0) }
+{
+    of_zones();
+    book.act_as(caller);
     book.reserve(80)?;
     let there = Some((nano, seat));
     let mut at = At { book, nano: there };
@@ -82,10 +114,10 @@ fn two_seats_in_turn(rt: HostRuntime) -> Result<(), Fail> {
         return Err(Fail::new("there are two seats"));
     };
     let zone = Zone::new(rt.alloc(), &p, 0)?;
-    let a = take_turn(&rt, &zone, &mut book, &nano, &mut first, true)?;
-    let b = take_turn(&rt, &zone, &mut book, &nano, &mut second, false)?;
-    let c = take_turn(&rt, &zone, &mut book, &nano, &mut first, false)?;
-    let d = take_turn(&rt, &zone, &mut book, &nano, &mut second, true)?;
+    let a = take_turn(&rt, &zone, &mut book, &nano, &mut first, 0, true)?;
+    let b = take_turn(&rt, &zone, &mut book, &nano, &mut second, 1, false)?;
+    let c = take_turn(&rt, &zone, &mut book, &nano, &mut first, 0, false)?;
+    let d = take_turn(&rt, &zone, &mut book, &nano, &mut second, 1, true)?;
     assert_eq!(rt; (a, b), (Some(1_048_576), Some(1_048_576)));
     assert_eq!(rt; (c, d), (Some(1_048_640), Some(1_048_704)));
     assert_eq!(rt; (first.tries(), second.tries()), (2, 2));

@@ -1,6 +1,7 @@
 -- What the tests rest on: after a step another one can be done, and a block that was made can be handed in.
 use Rattle.std.proofs.Common.{◌≡◌, ℕ, ◌+◌, ◌*◌, ◌<◌, ◌≤◌, true, List, [], ◌∷◌, ◌++◌, Option, None, Some, length, refl, ap, sym, subst, ◌∙◌, arith, append-nil}
 use Rattle.std.specs.Prelude.{Result, Ok, Err, IfSome, replicate}
+use Rattle.std.specs.Borrow.{Bor, MutBor}
 use Rattle.std.proofs.lemmas.List.{length-replicate}
 use Rattle.std.proofs.lemmas.Bool.{or_left, or_right, eq-eqb}
 use Rattle.mz_base.specs.declared.profile.Profile.{Profile}
@@ -10,20 +11,24 @@ use Rattle.mz_base.specs.Site.{Site}
 use Rattle.mz_base.specs.Space.{Block, block_at, same_block}
 use Rattle.mz_base.specs.Lists.{has_block}
 use Rattle.mz_events.specs.declared.entry.Entry.{Entry}
-use Rattle.mz_events.specs.Hands.{hand_through}
+use Rattle.mz_events.specs.Hands.{own, hand_through}
 use Rattle.mz_events.specs.Places.{nano_start}
 use Rattle.mz_events.specs.State.{is_open, opening}
 use Rattle.mz_events.specs.History.{after_all}
 use Rattle.mz_book.specs.Account.{Account, hand}
 use Rattle.mz_book.specs.Pairs.{hand_among}
-use Rattle.mz_book.specs.Plain.{Reserves, opening_account}
+use Rattle.mz_book.specs.Plain.{Reserves, ActsAs, opening_account}
 use Rattle.mz_nano.specs.declared.nano.Nano.{Nano}
 use Rattle.mz_nano.specs.declared.seat.NanoSeat.{NanoSeat}
-use Rattle.mz_nano.specs.SeatLists.{AllNew, SitsAt, first_of, blocks_of, space_of}
+use Rattle.mz_nano.specs.SeatLists.{AllNew, SitsAt, first_of, blocks_of, space_of, hand_of}
+use Rattle.mz_nano.specs.SlotViews.{SlotView}
+use Rattle.mz_nano.specs.Lists.{In}
 use Rattle.mz_rack.specs.declared.lot.Null.{Null}
 use Rattle.mz_rack.specs.Serving.{CanServe}
-use Rattle.mz_zone.specs.Blocks.{BlockView, block_of, with_block_bytes, at_its_place}
-use Rattle.mz_zone.specs.Calling.{AtView, Seated, CanCall, Goes, IsHandedIn, IsSeatedAt, HasSlot, StaysSeated, seated, with_seat}
+use Rattle.mz_zone.specs.declared.zone.Zone.{Zone}
+use Rattle.mz_zone.specs.Blocks.{BlockView, of_slot, block_of, with_block_bytes, at_its_place}
+use Rattle.mz_zone.specs.Calling.{AtView, Seated, CanCall, Goes, IsHandedIn, IsSeatedAt, seated, with_seat}
+use Rattle.mz_zone.specs.Making.{IsPutBack, held_of}
 use Rattle.mz_zone.specs.Answering.{Answers}
 use Rattle.mz_zone.specs.Tested.{tested, IsReady, IsOpening}
 use Rattle.mz_zone.specs.ZoneLaws.{ZoneLaws}
@@ -71,6 +76,13 @@ handed_with v t n b h more = record {
   space = h.space ∙ sym (ap (λ a. a.site) more.after);
   slot = h.slot;
 }
+
+-- the zone is one of its profile's
+zone_in : (zone : Zone) → zone.zone < zone.profile.zones
+zone_in zone = subst (λ (p : Profile). zone.zone < p.zones) zone.of_profile (subst (λ n. n < zone.rack.profile.zones) zone.of_zone zone.rack.zone_in)
+
+pub can_at : (v : AtView) (zone : Zone) (n : ℕ) → IsReady v zone.profile n → CanCall v zone.profile zone.zone n
+can_at v zone n ready = ready.each zone.zone (zone_in zone)
 
 -- after a call
 
@@ -156,3 +168,59 @@ last_sits nano xs ys x e news = of_last ys 0 (subst (λ ss. AllNew nano.table.sh
     of_last : (ss : List NanoSeat) (k : ℕ) → AllNew nano.table.shared.table_id nano.table.shared.key k (ss ++ x ∷ []) → SitsAt nano x
     of_last [] k a = (a.0.one, a.0.parts)
     of_last (s ∷ ss) k a = of_last ss (k + 1) a.1
+
+-- a slot is pushed whose block stays live
+
+module _ (s : Account) (refs : Option (Bor Nano × MutBor NanoSeat)) (both : Bor Nano × MutBor NanoSeat) (is : refs ≡ Some both) where
+  pub may_push :
+      (p : Profile) (z n : ℕ) (x : SlotView) → CanCall (record { book = s; nano = seated refs }) p z n → IsHandedIn (record { book = s; nano = seated refs }) (of_slot x)
+      → SitsAt both.0.now both.1.now × In (held_of x) (hand_of both.1.now) × ((x.span.space ≡ space_of both.0.now) × (x.base ≡ first_of both.0.now))
+  may_push p z n x can handed =
+      let can_there : CanCall (with_seat s both.0.now both.1.now) p z n = subst (λ r. CanCall (record { book = s; nano = seated r }) p z n) is can in
+      let there : IsHandedIn (with_seat s both.0.now both.1.now) (of_slot x) = subst (λ r. IsHandedIn (record { book = s; nano = seated r }) (of_slot x)) is handed in
+      (can_there.nano.seat, there.slot.1, (there.space ∙ sym can_there.nano.space, there.slot.0))
+
+  pub ready_pushed :
+      (p : Profile) (x : SlotView) (b : NanoSeat) → IsReady (record { book = s; nano = seated refs }) p 0 → IsPutBack both.0.now both.1.now x b
+      → IsReady (with_seat s both.0.now b) p 0
+  ready_pushed p x b ready put = record {
+    each = λ z below.
+        let can : CanCall (with_seat s both.0.now both.1.now) p z 0 = subst (λ r. CanCall (record { book = s; nano = seated r }) p z 0) is (ready.each z below) in
+        record { serve = can.serve; nano = record { seat = put.same.sits; first = can.nano.first; blocks = can.nano.blocks; space = can.nano.space } };
+  }
+
+-- callers and their seats
+
+pub ready_as : (v : AtView) (t : Account) (p : Profile) (c : ℕ) → IsReady v p 0 → ActsAs v.book c t → IsReady (after v t) p 0
+ready_as v t p c ready acts = record { each = λ z below. as_caller z (ready.each z below) }
+  where
+    by_seat : (m : Option Seated) → IsSeatedAt v.book m → IsSeatedAt (record v.book { caller = c; noted = own c v.book.seen }) m
+    by_seat None i = tt
+    by_seat (Some x) i = record { seat = i.seat; first = i.first; blocks = i.blocks; space = i.space }
+
+    as_caller : (z : ℕ) → CanCall v p z 0 → CanCall (after v t) p z 0
+    as_caller z can = record {
+      serve = subst (λ u. CanServe u p z 0) (sym acts.after) (record {
+        profile = can.serve.profile;
+        zone_open = can.serve.zone_open;
+        nothing_held = record { keepers = can.serve.nothing_held.keepers; lights = can.serve.nothing_held.lights };
+        room = omega arith;
+      });
+      nano = subst (λ u. IsSeatedAt u v.nano) (sym acts.after) (by_seat v.nano can.nano);
+    }
+
+pub other_seat : (t : Account) (nano : Nano) (a b : NanoSeat) (p : Profile) (n : ℕ) → IsReady (with_seat t nano a) p n → SitsAt nano b → IsReady (with_seat t nano b) p n
+other_seat t nano a b p n ready sits = record {
+  each = λ z below.
+      let can = ready.each z below in
+      record { serve = can.serve; nano = record { seat = sits; first = can.nano.first; blocks = can.nano.blocks; space = can.nano.space } };
+}
+
+pub others_new :
+    (nano : Nano) (xs ys : List NanoSeat) (x : NanoSeat) → xs ≡ ys ++ x ∷ [] → AllNew nano.table.shared.table_id nano.table.shared.key 0 xs
+    → AllNew nano.table.shared.table_id nano.table.shared.key 0 ys
+others_new nano xs ys x e news = of_front ys 0 (subst (λ ss. AllNew nano.table.shared.table_id nano.table.shared.key 0 ss) e news)
+  where
+    of_front : (ss : List NanoSeat) (k : ℕ) → AllNew nano.table.shared.table_id nano.table.shared.key k (ss ++ x ∷ []) → AllNew nano.table.shared.table_id nano.table.shared.key k ss
+    of_front [] k a = tt
+    of_front (s ∷ ss) k a = (a.0, of_front ss (k + 1) a.1)

@@ -106,7 +106,7 @@ fn shows(block: &Block, n: u64, x: u8) -> bool {
 }
 
 // Marks all bytes of the block.
-fn mark(block: &mut Block, x: u8)
+fn write_mark(block: &mut Block, x: u8)
     ensures { block.new ≡ with_block_bytes block.old (replicate (length block.old.span.bytes) x) }
 {
     fill(block.bytes_mut(), x);
@@ -189,7 +189,7 @@ fn marked(block: Block) -> (Option<Block>, Answer)
 {
     let mut b = block;
     let x = byte_at(b.first());
-    mark(&mut b, x);
+    write_mark(&mut b, x);
     let answer = Answer::Block(b.first(), b.size());
     (Some(b), answer)
 }

@@ -110,7 +110,10 @@ fn two_seats_in_turn(rt: HostRuntime) -> Result<(), Fail> {
     let keepers = Keeper::all(rt.alloc(), &p, low)?;
     let mut book = PlainBook::new(rt.alloc(), &p, keepers)?;
     let (nano, mut seats) = Nano::open(rt.alloc(), high, p.most_gen, p.callers)?;
-    let (Some(mut second), Some(mut first)) = (seats.pop(), seats.pop()) else {
+    let Some(mut second) = seats.pop() else {
+        return Err(Fail::new("there are two seats"));
+    };
+    let Some(mut first) = seats.pop() else {
         return Err(Fail::new("there are two seats"));
     };
     let zone = Zone::new(rt.alloc(), &p, 0)?;

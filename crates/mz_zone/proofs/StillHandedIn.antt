@@ -1,6 +1,6 @@
 -- What the tests rest on: a block that got another size, or came back, can be handed in.
 use Rattle.std.proofs.Common.{◌≡◌, ℕ, ◌+◌, ◌==◌, ◌<◌, ◌≤◌, Bool, true, false, not, List, [], ◌∷◌, ◌++◌, Option, None, Some, length, map, refl, ap, sym, subst, ◌∙◌, arith, inl, inr, append-nil, length-append}
-use Rattle.std.specs.Prelude.{◌≢◌, Result, Ok, Err, ◌&&◌, ◌||◌, if◌then◌else◌, ◌⊎◌}
+use Rattle.std.specs.Prelude.{◌≢◌, Result, Ok, Err, IfSome, ◌&&◌, ◌||◌, if◌then◌else◌, ◌⊎◌}
 use Rattle.std.specs.Option.{option_to_list}
 use Rattle.std.proofs.lemmas.Option.{same_Some}
 use Rattle.std.proofs.lemmas.List.Sums.{fold-append}
@@ -183,6 +183,12 @@ pub back_from_realloc :
     → IsHandedIn w x
 back_from_realloc laws v w z n b x (fault.NotLive e) r is h = subst (λ y. IsHandedIn w y) (same_Some e.block x is) (back_from_free laws v w z b e r h)
 back_from_realloc laws v w z n b x (fault.Null c e) r is h = subst (λ y. IsHandedIn w y) (same_Some b x (sym r.1 ∙ is)) (back_from_move laws v w z n b e r.2 h)
+
+pub some_back :
+    (laws : ZoneLaws) (v w : AtView) (z n : ℕ) (b : BlockView) (f : ReallocFault) (o : Option BlockView) → Reallocs v z (Some b) n (Err f) w
+    → IfSome o (λ x. block_in f ≡ Some x) → IsHandedIn v b → IfSome o (IsHandedIn w)
+some_back laws v w z n b f None r is h = tt
+some_back laws v w z n b f (Some x) r is h = back_from_realloc laws v w z n b x f r is h
 
 -- each realloc goes on from where it began
 pub realloc_goes :

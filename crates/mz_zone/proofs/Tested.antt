@@ -128,6 +128,10 @@ pub some_handed : (w : AtView) (o : Option BlockView) (d : BlockView) → IfSome
 some_handed w None d is h = tt
 some_handed w (Some b) d is h = subst (λ x. IsHandedIn w x) (sym is) h
 
+pub some_still : (v w : AtView) (o : Option BlockView) → IfSome o (IsHandedIn v) → ((b : BlockView) → IsHandedIn v b → IsHandedIn w b) → IfSome o (IsHandedIn w)
+some_still v w None h still = tt
+some_still v w (Some b) h still = still b h
+
 -- at first
 
 open_at_first : (p : Profile) → is_open (after_all p opening []) 0 ≡ true

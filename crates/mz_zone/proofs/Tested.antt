@@ -29,7 +29,12 @@ use Rattle.mz_zone.specs.declared.zone.Zone.{Zone}
 use Rattle.mz_zone.specs.Blocks.{BlockView, of_slot, block_of, with_block_bytes, at_its_place}
 use Rattle.mz_zone.specs.Calling.{AtView, Seated, CanCall, Goes, IsHandedIn, IsSeatedAt, seated, with_seat}
 use Rattle.mz_zone.specs.Making.{IsPutBack, held_of}
-use Rattle.mz_zone.specs.Answering.{Answers}
+use Rattle.mz_zone.specs.Answering.{Answers, Callocs, Memaligns}
+use Rattle.mz_zone.specs.declared.fault.CallocFault.{CallocFault}
+use Rattle.mz_zone.specs.declared.fault.CallocFault.TheVariants as calloc
+use Rattle.mz_zone.specs.declared.fault.AlignFault.{AlignFault}
+use Rattle.mz_zone.specs.declared.fault.AlignFault.TheVariants as align
+use Rattle.mz_zone.proofs.Going.{goes_nowhere}
 use Rattle.mz_zone.specs.Tested.{tested, IsReady, IsOpening}
 use Rattle.mz_zone.specs.ZoneLaws.{ZoneLaws}
 use Rattle.mz_zone.proofs.Clearing.{whole_front}
@@ -122,6 +127,18 @@ handed_marked v b x h =
       space = h.space;
       slot = h.slot;
     })
+
+-- a refused request goes on from where it began
+
+pub calloc_goes :
+    (laws : ZoneLaws) (v w : AtView) (p : Profile) (z k n m : ℕ) (f : CallocFault) → CanCall v p z k → Callocs v z n m (Err f) w → (mine : List Entry) × Goes v mine w
+calloc_goes laws v w p z k n m calloc.Overflow can r = ([], subst (λ u. Goes v [] u) (sym r.1) (goes_nowhere laws v can.serve.nothing_held can.nano))
+calloc_goes laws v w p z k n m (calloc.Null e) can r = (r.1.mine, r.1.goes)
+
+pub memalign_goes :
+    (laws : ZoneLaws) (v w : AtView) (p : Profile) (z k al n : ℕ) (f : AlignFault) → CanCall v p z k → Memaligns v z al n (Err f) w → (mine : List Entry) × Goes v mine w
+memalign_goes laws v w p z k al n align.BadAlign can r = ([], subst (λ u. Goes v [] u) (sym r.1) (goes_nowhere laws v can.serve.nothing_held can.nano))
+memalign_goes laws v w p z k al n (align.Null e) can r = (r.1.mine, r.1.goes)
 
 -- a block that is known to be one that can be handed in
 pub some_handed : (w : AtView) (o : Option BlockView) (d : BlockView) → IfSome o (λ b. b ≡ d) → IsHandedIn w d → IfSome o (IsHandedIn w)

@@ -1,9 +1,6 @@
-use Rattle.mz_zone.proofs.Tested.{can_at, ready_then, some_still}
+use Rattle.mz_zone.proofs.Tested.{ready_then, some_still}
 use Rattle.mz_zone.proofs.Moved.{still_handed}
 use Rattle.mz_zone.proofs.tests.leave.Goals as goal
-
-pub malloc-requires : goal.malloc-requires
-malloc-requires g c = record { can = can_at _ c.args.zone.now 40 c.in_ok-make_room.ensures.ready }
 
 pub returns-in-Ok : goal.returns-in-Ok
 returns-in-Ok g c = record {

@@ -1,9 +1,6 @@
-use Rattle.mz_zone.proofs.Tested.{can_at, ready_then, handed}
+use Rattle.mz_zone.proofs.Tested.{ready_then, handed}
 use Rattle.mz_zone.proofs.StillHandedIn.{realloc_goes}
 use Rattle.mz_zone.proofs.tests.realloc_none.Goals as goal
-
-pub realloc-requires-clause-can : goal.realloc-requires-clause-can
-realloc-requires-clause-can g c = can_at _ c.args.zone.now 40 c.in_ok-make_room.ensures.ready
 
 pub returns-in-Ok : goal.returns-in-Ok
 returns-in-Ok g c = record {

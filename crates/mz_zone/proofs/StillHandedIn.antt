@@ -37,16 +37,18 @@ use Rattle.mz_zone.proofs.Tested.{same_itself, has_last, hand_after_call}
 -- the block c stands where b did
 has_changed : (bs : List Block) (b c : Block) → has_block bs b ≡ true → has_block (map (λ x. if same_block b x then c else x) bs) c ≡ true
 has_changed [] b c h = absurd (false≢true h)
-has_changed (x ∷ bs) b c h = by_test (same_block b x) refl
+has_changed (x ∷ bs) b c h = by_test (same_block b x) refl (has_changed bs b c)
   where
-    by_test : (t : Bool) → same_block b x ≡ t → has_block (map (λ y. if same_block b y then c else y) (x ∷ bs)) c ≡ true
-    by_test true e = rw e (or_left (same_block c c) _ (same_itself c))
-    by_test false e = rw e (or_right (same_block c x) _ (has_changed bs b c (rw e at h)))
+    by_test :
+        (t : Bool) → same_block b x ≡ t → (has_block bs b ≡ true → has_block (map (λ y. if same_block b y then c else y) bs) c ≡ true)
+        → has_block (map (λ y. if same_block b y then c else y) (x ∷ bs)) c ≡ true
+    by_test true e later = rw e (or_left (same_block c c) _ (same_itself c))
+    by_test false e later = rw e (or_right (same_block c x) _ (later (rw e at h)))
 
 -- a block that isn't the one that is dropped is there still
 has_others : (bs : List Block) (b c : Block) → same_block b c ≡ false → has_block bs c ≡ true → has_block (drop_block b bs) c ≡ true
 has_others [] b c other h = absurd (false≢true h)
-has_others (x ∷ bs) b c other h = by_test (same_block c x) (same_block b x) refl refl
+has_others (x ∷ bs) b c other h = by_test (same_block c x) (same_block b x) refl refl (has_others bs b c other)
   where
     as_same : (t : Bool) → same_block b x ≡ t → same_block c x ≡ true → t ≡ false
     as_same false e y = refl
@@ -56,10 +58,12 @@ has_others (x ∷ bs) b c other h = by_test (same_block c x) (same_block b x) re
         let is : x ≡ c = ap (λ f. block_at f x.size) (sym (eqb-true c.first x.first one.0)) ∙ ap (block_at c.first) (sym (eqb-true c.size x.size one.1)) in
         absurd (false≢true (sym other ∙ subst (λ y. same_block b y ≡ true) is e))
 
-    by_test : (s t : Bool) → same_block c x ≡ s → same_block b x ≡ t → has_block (drop_block b (x ∷ bs)) c ≡ true
-    by_test true t y e = rw (e, as_same t e y, y) refl
-    by_test false true y e = rw e (has_others bs b c other (rw y at h))
-    by_test false false y e = rw (e, y) (has_others bs b c other (rw y at h))
+    by_test :
+        (s t : Bool) → same_block c x ≡ s → same_block b x ≡ t → (has_block bs c ≡ true → has_block (drop_block b bs) c ≡ true)
+        → has_block (drop_block b (x ∷ bs)) c ≡ true
+    by_test true t y e rest = rw (e, as_same t e y) (or_left (same_block c x) _ y)
+    by_test false true y e rest = rw e (rest (rw y at h))
+    by_test false false y e rest = rw e (or_right (same_block c x) _ (rest (rw y at h)))
 
 one_event : (bs : List Block) (es : List Entry) (x : Event) → events es ≡ x ∷ [] → hand_through bs es ≡ hand_after bs x
 one_event bs [] x h = absurd (let n = ap length h in omega (arith, n))

@@ -1,7 +1,8 @@
 ghost use Rattle.std.specs.Prelude.{◌≡◌, ℕ, ◌<◌, ◌≤◌, List, Some, length, replicate, IfOk, IfSome};
 ghost use Rattle.mz_base.specs.Limits.{IsWithinLimits, IsFrom};
+ghost use Rattle.mz_base.specs.Space.{block_at, same_block};
 ghost use Rattle.mz_events.specs.declared.entry.Entry.{Entry as entry};
-ghost use Rattle.mz_zone.specs.Blocks.{BlockView, of_slot, with_block_bytes};
+ghost use Rattle.mz_zone.specs.Blocks.{BlockView, block_of, of_slot, with_block_bytes};
 ghost use Rattle.mz_zone.specs.Calling.{seen, AtView, CanCall, Goes, IsHandedIn};
 ghost use Rattle.mz_zone.specs.Tested.{tested, IsReady, IsLeft, IsOpening, block_in};
 
@@ -128,9 +129,16 @@ fn mark_of(block: &Block) -> Mark
     }
 }
 
+// Whether the block is where it was when it was marked, of the same size.
+fn is_same(block: &Block, was: Mark) -> bool
+    ensures { result ≡ same_block (block_at was.first was.size) (block_of block.now) }
+{
+    was.first == block.first() && was.size == block.size()
+}
+
 // Whether the block is as it was when it was marked.
 fn is_as_marked(block: &Block, was: Mark) -> bool {
-    mark_of(block) == was && shows(block, was.size, byte_at(was.first))
+    is_same(block, was) && shows(block, was.size, byte_at(was.first))
 }
 
 // The first bytes of the block that is asked for have to be 0: so many.
@@ -316,12 +324,24 @@ fn realloc<R: Wait>(
         Ok(new) => new,
         Err(fault) => return Ok(unchanged(fault, was)),
     };
-    let same = mark_of(&new) == was;
-    let noted = at.book.history().len() > before;
-    if same && noted || !shows(&new, kept(was, &new, n), byte_at(was.first)) {
+    if at.book.history().len() == before {
+        return Ok(kept_at_hand(new, was, n));
+    }
+    if is_same(&new, was) {
         return Ok((None, Answer::Spoiled));
     }
-    Ok(marked(new))
+    Ok(kept_at_hand(new, was, n))
+}
+
+// A block that got another size is marked anew, and at hand still, if it shows what it is to keep.
+fn kept_at_hand(new: Block, was: Mark, n: u64) -> (Option<Block>, Answer)
+    ensures { (v : AtView) → IsHandedIn v new → IfSome result.0 (IsHandedIn v) }
+{
+    if shows(&new, kept(was, &new, n), byte_at(was.first)) {
+        marked(new)
+    } else {
+        (None, Answer::Spoiled)
+    }
 }
 
 // What comes back where a block got no other size.

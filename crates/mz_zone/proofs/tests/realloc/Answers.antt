@@ -1,28 +1,23 @@
-use Rattle.std.proofs.Common.{subst}
-use Rattle.std.specs.Prelude.{IfSome}
-use Rattle.mz_zone.specs.Calling.{IsHandedIn}
-use Rattle.mz_zone.proofs.Tested.{can_at, ready_then}
+use Rattle.mz_book.specs.contracts.plain.PlainBookBook.TheImpl.{ghosts}
+use Rattle.mz_rack.specs.contracts.keeper.Keeper.{the_row}
+use Rattle.mz_rack.specs.contracts.keeper.KeeperKeep.TheImpl as keep
+use Rattle.std.proofs.Common.{◌≡◌, true, arith, sym, subst, ◌∙◌}
+use Rattle.std.specs.Prelude.{Ok, Err, Some, IfSome}
+use Rattle.std.proofs.lemmas.Bool.{false≢true}
+use Rattle.mz_base.specs.Space.{block_at, same_block}
+use Rattle.mz_zone.specs.Blocks.{block_of}
+use Rattle.mz_zone.specs.Calling.{AtView, IsHandedIn, seen}
+use Rattle.mz_zone.proofs.Tested.{ready_then}
 use Rattle.mz_zone.proofs.StillHandedIn.{realloc_goes, resized_handed, some_back}
 use Rattle.mz_zone.proofs.tests.realloc.Goals as goal
 
-pub realloc-requires : goal.realloc-requires
-realloc-requires g c = record {
-  can = can_at _ c.args.zone.now 40 c.in_ok-make_room.ensures.ready;
-  block = c.in_ok-make_room.ensures.held c.in-Some.b (subst (λ o. IfSome o (IsHandedIn _)) c.in-Some.is c.requires.held);
-}
-
 pub returns-in-Err : goal.returns-in-Err
-returns-in-Err g c = record {
-  ready = ready_then _ _ _ 40 _ c.in_ok-make_room.ensures.ready (realloc_goes _ _ _ _ _ _ c.in-Err.ensures.reallocs).1;
-  held = some_back c.of_zones.ensures _ _ _ _ _ _ _ c.in-Err.ensures.reallocs c.unchanged.ensures
-      (c.in_ok-make_room.ensures.held c.in-Some.b (subst (λ o. IfSome o (IsHandedIn _)) c.in-Some.is c.requires.held));
-}
-
-pub returns-then-same : goal.returns-then-same
-returns-then-same g c = record { ready = ready_then _ _ _ 40 _ c.in_ok-make_room.ensures.ready (realloc_goes _ _ _ _ _ _ c.in-Ok.ensures.reallocs).1; held = tt }
-
-pub returns : goal.returns
-returns g c = record {
-  ready = ready_then _ _ _ 40 _ c.in_ok-make_room.ensures.ready (realloc_goes _ _ _ _ _ _ c.in-Ok.ensures.reallocs).1;
-  held = c.marked.ensures _ (resized_handed c.of_zones.ensures _ _ _ _ _ _ c.in-Ok.ensures.reallocs ? (c.in_ok-make_room.ensures.held c.in-Some.b (subst (λ o. IfSome o (IsHandedIn _)) c.in-Some.is c.requires.held)));
-}
+returns-in-Err g c =
+    let v : AtView = seen ((ghosts the_row keep.ghosts keep.dict).account) c.make_room.new.at in
+    let w : AtView = seen ((ghosts the_row keep.ghosts keep.dict).account) c.realloc.new.at in
+    let there : IsHandedIn v c.in-Some.b =
+    c.in_ok-make_room.ensures.held c.in-Some.b (subst (λ o. IfSome o (IsHandedIn (seen ((ghosts the_row keep.ghosts keep.dict).account) c.args.at.now))) c.in-Some.is c.requires.held) in
+    record {
+      ready = ready_then v w _ 40 _ c.in_ok-make_room.ensures.ready (realloc_goes v w c.args.zone.now.zone c.args.n (Some c.in-Some.b) (Err c.in-Err.fault) c.in-Err.ensures.reallocs).1;
+      held = some_back c.of_zones.ensures v w c.args.zone.now.zone c.args.n c.in-Some.b c.in-Err.fault c.unchanged.result.0 c.in-Err.ensures.reallocs c.unchanged.ensures there;
+    }

@@ -6,5 +6,5 @@ use Rattle.mz_zone.specs.Tested.{IsLeft}
 use Rattle.mz_zone.proofs.tests.go_on.Given as goal
 
 -- the next step can be done
-abbrev pub invariant-loop : goal.invariant-loop
-invariant-loop g l = IsLeft (seen ((ghosts the_row keep.ghosts keep.dict).account) l.at) l.zone.profile l.held
+abbrev pub invariant-loop-step : goal.invariant-loop-step
+invariant-loop-step g l = IsLeft (seen ((ghosts the_row keep.ghosts keep.dict).account) l.at) l.zone.profile l.held

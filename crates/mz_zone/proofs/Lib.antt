@@ -16,4 +16,3 @@ pub mod InPlace
 pub mod Batched
 pub mod Tested
 pub mod StillHandedIn
-pub mod TwoZones

@@ -25,7 +25,6 @@ mod calls;
 mod moves;
 mod nano;
 mod refusals;
-mod zones;
 
 const TINY: Place = Place::Tiny { zone: 0, mag: 0 };
 

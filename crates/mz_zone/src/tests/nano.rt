@@ -1,20 +1,7 @@
-//! Slots that can't be blocks, and two seats of one nano.
-ghost use Rattle.std.specs.Prelude.{◌<◌, IfOk};
-ghost use Rattle.mz_zone.specs.Calling.{with_seat};
-ghost use Rattle.mz_zone.specs.Tested.{IsReady};
+//! Slots that can't be blocks.
 
-use super::{
-    Answer, Request, Step, TINY, TINY_DEPOT, end, full, new, profile, see_events, take, with_nano,
-};
-use crate::laws::of_zones;
-use crate::{At, Zone};
-use mz_book::{Book, PlainBook};
+use super::{Answer, Request, Step, TINY, TINY_DEPOT, end, full, new, take, with_nano};
 use mz_events::Place;
-use mz_ground::Space;
-use mz_nano::{Nano, NanoSeat};
-use mz_rack::Keeper;
-use std::alloc::AllocError;
-use std::sync::Wait;
 use std::test::Fail;
 
 // Nano's pages are 64 and 65. Another caller noted class 5 for the first, of which nano makes one of class 4: its slot is
@@ -67,76 +54,5 @@ fn a_slot_of_a_live_block_goes_back(rt: HostRuntime) -> Result<(), Fail> {
     ];
     let counts = with_nano(&rt, rt.alloc(), 66, None, &steps, &events)?;
     assert_eq!(rt; counts, (3, 0));
-    Ok(())
-}
-
-// A caller makes a block with its seat, and frees it if it is to. Answers the block's first address.
-fn take_turn<R: Wait>(
-    rt: &R,
-    zone: &Zone,
-    book: &mut PlainBook<Keeper>,
-    nano: &Nano,
-    seat: &mut NanoSeat,
-    caller: u32,
-    frees: bool,
-) -> Result<Option<u64>, AllocError>
-    requires caller { caller < zone.now.profile.callers }
-    requires ready { IsReady (with_seat (⟦<PlainBook<Keeper> as Book<Keeper>>⟧.account book.old) nano.now seat.old) zone.now.profile 0 }
-    ensures { IfOk result (λ first. IsReady (with_seat (⟦<PlainBook<Keeper> as Book<Keeper>>⟧.account book.new) nano.now seat.new) zone.now.profile 0) }
-{
-    of_zones();
-    book.act_as(caller);
-    book.reserve(80)?;
-    let there = Some((nano, seat));
-    let mut at = At { book, nano: there };
-    let Ok(b) = zone.malloc(rt, &mut at, 60) else {
-        return Ok(None);
-    };
-    let first = b.first();
-    if frees {
-        let Ok(()) = zone.free(rt, &mut at, b) else {
-            return Ok(None);
-        };
-    }
-    Ok(Some(first))
-}
-
-// Each seat goes on where the other one left nano.
-#[test]
-fn two_seats_in_turn(rt: HostRuntime) -> Result<(), Fail> {
-    let p = profile(66, 2);
-    let span = Space::new(rt.alloc(), p.pages)?;
-    let (low, high) = span.split((p.pages - p.nano) * 16_384);
-    let keepers = Keeper::all(rt.alloc(), &p, low)?;
-    let mut book = PlainBook::new(rt.alloc(), &p, keepers)?;
-    let (nano, mut seats) = Nano::open(rt.alloc(), high, p.most_gen, p.callers)?;
-    let Some(mut second) = seats.pop() else {
-        return Err(Fail::new("there are two seats"));
-    };
-    let Some(mut first) = seats.pop() else {
-        return Err(Fail::new("there are two seats"));
-    };
-    let zone = Zone::new(rt.alloc(), &p, 0)?;
-    let a = take_turn(&rt, &zone, &mut book, &nano, &mut first, 0, true)?;
-    let b = take_turn(&rt, &zone, &mut book, &nano, &mut second, 1, false)?;
-    let c = take_turn(&rt, &zone, &mut book, &nano, &mut first, 0, false)?;
-    let d = take_turn(&rt, &zone, &mut book, &nano, &mut second, 1, true)?;
-    assert_eq!(rt; (a, b), (Some(1_048_576), Some(1_048_576)));
-    assert_eq!(rt; (c, d), (Some(1_048_640), Some(1_048_704)));
-    assert_eq!(rt; (first.tries(), second.tries()), (2, 2));
-    assert_eq!(rt; (first.misses(), second.misses()), (0, 0));
-    let events = [
-        new(Place::Nano, 1_048_576, 64),
-        end(Place::Nano, 1_048_576, 64),
-        new(Place::Nano, 1_048_576, 64),
-        new(Place::Nano, 1_048_640, 64),
-        new(Place::Nano, 1_048_704, 64),
-        end(Place::Nano, 1_048_704, 64),
-    ];
-    see_events(&rt, book.history(), &events);
-    let callers = [0, 0, 1, 0, 1, 1];
-    for (entry, caller) in book.history().iter().zip(callers) {
-        assert_eq!(rt; entry.caller, caller);
-    }
     Ok(())
 }

@@ -351,7 +351,8 @@ fn unchanged(fault: ReallocFault, was: Mark) -> (Option<Block>, Answer)
     match fault {
         ReallocFault::NotLive(fault) => come_back(fault.block, was, number),
         ReallocFault::Null {
-            block: Some(block), ..
+            block: Some(block),
+            ..
         } => come_back(block, was, number),
         ReallocFault::Null { block: None, .. } => (None, Answer::Refused(number)),
     }

@@ -1,6 +1,6 @@
 use super::{
-    Answer, LARGE, Request, SMALL, SMALL_DEPOT, Step, TINY, TINY_DEPOT, dry, end, full, new, new_at,
-    profile, take, with_nano, without_nano,
+    Answer, LARGE, Request, SMALL, SMALL_DEPOT, Step, TINY, TINY_DEPOT, dry, end, full, new,
+    new_at, profile, take, with_nano, without_nano,
 };
 use crate::Zone;
 use mz_events::Place;
@@ -106,7 +106,10 @@ fn nano_serves_small_requests_and_the_rack_the_others(rt: HostRuntime) -> Result
         (Step::FreeOfSize(1), Answer::Freed),
         // These are no requests for nano.
         (Step::Make(Request::Malloc(257)), Answer::Block(0, 272)),
-        (Step::Make(Request::Memalign(32, 60)), Answer::Block(288, 64)),
+        (
+            Step::Make(Request::Memalign(32, 60)),
+            Answer::Block(288, 64),
+        ),
         // Nano has no page left for this class.
         (Step::Make(Request::Malloc(17)), Answer::Block(352, 32)),
         (Step::Make(Request::Valloc(64)), Answer::Block(16_384, 64)),

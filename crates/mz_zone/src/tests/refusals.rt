@@ -1,4 +1,6 @@
-use super::{Answer, LARGE, Request, Step, TINY, TINY_DEPOT, dry, end, full, new, take, without_nano};
+use super::{
+    Answer, LARGE, Request, Step, TINY, TINY_DEPOT, dry, end, full, new, take, without_nano,
+};
 use std::test::Fail;
 
 // Where one could be both, the request that has no number or no right alignment is refused first.
@@ -16,10 +18,7 @@ fn requests(rt: HostRuntime) -> Result<(), Fail> {
             Answer::Refused(4),
         ),
         (Step::Make(Request::Malloc(u64::MAX)), Answer::Refused(1)),
-        (
-            Step::Make(Request::Calloc(1, u64::MAX)),
-            Answer::Refused(1),
-        ),
+        (Step::Make(Request::Calloc(1, u64::MAX)), Answer::Refused(1)),
         (
             Step::Make(Request::Memalign(8, u64::MAX)),
             Answer::Refused(1),

@@ -16,4 +16,5 @@ pub mod InPlace
 pub mod Summed
 pub mod Batched
 pub mod Ended
-mod Tested
+pub mod Tested
+pub mod StillHandedIn

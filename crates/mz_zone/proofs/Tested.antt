@@ -1,56 +1,59 @@
--- What tests ask: after a block was made it can be freed, and then a call can be made again.
-use Rattle.std.proofs.Common.{◌≡◌, ℕ, ◌+◌, ◌*◌, true, List, [], ◌∷◌, ◌++◌, Option, None, Some, refl, ap, sym, subst, ◌∙◌, arith}
-use Rattle.std.specs.Prelude.{Ok}
+-- What the tests rest on: after a step another one can be done, and a block that was made can be handed in.
+use Rattle.std.proofs.Common.{◌≡◌, ℕ, ◌+◌, ◌*◌, ◌<◌, ◌≤◌, true, List, [], ◌∷◌, ◌++◌, Option, None, Some, length, refl, ap, sym, subst, ◌∙◌, arith, append-nil}
+use Rattle.std.specs.Prelude.{Result, Ok, Err, IfSome, replicate}
+use Rattle.std.specs.Borrow.{Bor, MutBor}
+use Rattle.std.proofs.lemmas.List.{length-replicate}
 use Rattle.std.proofs.lemmas.Bool.{or_left, or_right, eq-eqb}
 use Rattle.mz_base.specs.declared.profile.Profile.{Profile}
 use Rattle.mz_base.specs.declared.range.TheConstants.{PAGE}
-use Rattle.mz_base.specs.Space.{Block, same_block}
+use Rattle.mz_base.specs.Limits.{IsWithinLimits, IsFrom}
+use Rattle.mz_base.specs.Site.{Site}
+use Rattle.mz_base.specs.Space.{Block, block_at, same_block}
 use Rattle.mz_base.specs.Lists.{has_block}
 use Rattle.mz_events.specs.declared.entry.Entry.{Entry}
+use Rattle.mz_events.specs.Hands.{hand_through}
 use Rattle.mz_events.specs.Places.{nano_start}
+use Rattle.mz_events.specs.State.{is_open, opening}
+use Rattle.mz_events.specs.History.{after_all}
 use Rattle.mz_book.specs.Account.{Account, hand}
 use Rattle.mz_book.specs.Pairs.{hand_among}
 use Rattle.mz_book.specs.Plain.{Reserves, opening_account}
-use Rattle.mz_base.specs.Site.{Site}
-use Rattle.mz_events.specs.State.{is_open, opening}
-use Rattle.mz_events.specs.History.{after_all}
-use Rattle.mz_zone.specs.Profiles.{tested}
 use Rattle.mz_nano.specs.declared.nano.Nano.{Nano}
 use Rattle.mz_nano.specs.declared.seat.NanoSeat.{NanoSeat}
-use Rattle.mz_nano.specs.SeatLists.{AllNew, SitsAt, first_of, blocks_of, space_of}
+use Rattle.mz_nano.specs.SeatLists.{AllNew, SitsAt, first_of, blocks_of, space_of, hand_of}
+use Rattle.mz_nano.specs.SlotViews.{SlotView}
+use Rattle.mz_nano.specs.Lists.{In}
+use Rattle.mz_rack.specs.declared.lot.Null.{Null}
 use Rattle.mz_rack.specs.Serving.{CanServe}
-use Rattle.mz_zone.specs.Blocks.{BlockView, block_of}
-use Rattle.mz_zone.specs.Calling.{AtView, Seated, CanCall, Goes, IsHandedIn, IsSeatedAt, StaysSeated, with_seat}
-use Rattle.mz_zone.specs.Answering.{Answers}
+use Rattle.mz_zone.specs.declared.zone.Zone.{Zone}
+use Rattle.mz_zone.specs.Blocks.{BlockView, of_slot, block_of, with_block_bytes, at_its_place}
+use Rattle.mz_zone.specs.Calling.{AtView, Seated, CanCall, Goes, IsHandedIn, IsSeatedAt, seated, with_seat}
+use Rattle.mz_zone.specs.Making.{IsPutBack, held_of}
+use Rattle.mz_zone.specs.Answering.{Answers, Callocs, Memaligns}
+use Rattle.mz_zone.specs.declared.fault.CallocFault.{CallocFault}
+use Rattle.mz_zone.specs.declared.fault.CallocFault.TheVariants as calloc
+use Rattle.mz_zone.specs.declared.fault.AlignFault.{AlignFault}
+use Rattle.mz_zone.specs.declared.fault.AlignFault.TheVariants as align
+use Rattle.mz_zone.proofs.Going.{goes_nowhere}
+use Rattle.mz_zone.specs.Tested.{tested, IsReady, IsOpening}
 use Rattle.mz_zone.specs.ZoneLaws.{ZoneLaws}
+use Rattle.mz_zone.proofs.Clearing.{whole_front}
+use Rattle.mz_zone.proofs.Moved.{can_then}
 use Rattle.mz_zone.proofs.Serving.{after}
 
--- nano is the book's still
-seated_after :
-    (s t : Account) (m k : Option Seated) → StaysSeated m k → t.profile ≡ s.profile → t.site ≡ s.site → IsSeatedAt s m → IsSeatedAt t k
-seated_after s t None None st p e i = tt
-seated_after s t None (Some y) st p e i = absurd st
-seated_after s t (Some x) None st p e i = absurd st
-seated_after s t (Some x) (Some y) st p e i = record {
-  seat = st.1;
-  first = ap first_of st.0 ∙ (i.first ∙ sym (ap (λ (q : Profile). nano_start q * PAGE) p));
-  blocks = ap blocks_of st.0 ∙ (i.blocks ∙ sym (ap (λ (q : Profile). q.nano) p));
-  space = ap space_of st.0 ∙ (i.space ∙ sym e);
+pub tested_limits : (pages nano : ℕ) → IsFrom 1 16384 pages → IsFrom 0 1024 nano → nano ≤ pages → IsWithinLimits (tested pages nano 1)
+tested_limits pages nano p n within = record {
+  pages = p;
+  callers = (omega arith, omega arith);
+  magazines = (omega arith, omega arith);
+  nano = n;
+  nano_within = within;
+  most_gen = (omega arith, omega arith);
+  zones = (omega arith, omega arith);
 }
 
--- a call may be made after another
-pub can_again : (v u : AtView) (p : Profile) (z m : ℕ) (mine : List Entry) → CanCall v p z m → Goes v mine u → CanCall u p z 0
-can_again v u p z m mine can goes = record {
-  serve = record {
-    profile = goes.adds.same.profile ∙ can.serve.profile;
-    zone_open = goes.adds.zones z ∙ can.serve.zone_open;
-    nothing_held = goes.nothing_held;
-    room = omega arith;
-  };
-  nano = seated_after v.book u.book v.nano u.nano goes.nano goes.adds.same.profile goes.adds.same.site can.nano;
-}
+-- room
 
--- where there is more room
 seat_with : (s t : Account) (n : ℕ) (m : Option Seated) → Reserves s n t → IsSeatedAt s m → IsSeatedAt t m
 seat_with s t n m more i = subst (λ u. IsSeatedAt u m) (sym more.after) (by_seat m i)
   where
@@ -58,7 +61,7 @@ seat_with s t n m more i = subst (λ u. IsSeatedAt u m) (sym more.after) (by_sea
     by_seat None i = tt
     by_seat (Some x) i = record { seat = i.seat; first = i.first; blocks = i.blocks; space = i.space }
 
-pub can_with : (v : AtView) (t : Account) (p : Profile) (z n : ℕ) → CanCall v p z 0 → Reserves v.book n t → CanCall (after v t) p z n
+can_with : (v : AtView) (t : Account) (p : Profile) (z n : ℕ) → CanCall v p z 0 → Reserves v.book n t → CanCall (after v t) p z n
 can_with v t p z n can more = record {
   serve = subst (λ u. CanServe u p z n) (sym more.after) (record {
     profile = can.serve.profile;
@@ -69,6 +72,9 @@ can_with v t p z n can more = record {
   nano = seat_with v.book t n v.nano more can.nano;
 }
 
+pub ready_with : (v : AtView) (t : Account) (p : Profile) (n : ℕ) → IsReady v p 0 → Reserves v.book n t → IsReady (after v t) p n
+ready_with v t p n ready more = record { each = λ z below. can_with v t p z n (ready.each z below) more }
+
 pub handed_with : (v : AtView) (t : Account) (n : ℕ) (b : BlockView) → IsHandedIn v b → Reserves v.book n t → IsHandedIn (after v t) b
 handed_with v t n b h more = record {
   in_hand = subst (λ u. has_block (hand u) (block_of b) ≡ true) (sym more.after) h.in_hand;
@@ -76,45 +82,130 @@ handed_with v t n b h more = record {
   slot = h.slot;
 }
 
-same_itself : (b : Block) → same_block b b ≡ true
+-- the zone is one of its profile's
+zone_in : (zone : Zone) → zone.zone < zone.profile.zones
+zone_in zone = subst (λ (p : Profile). zone.zone < p.zones) zone.of_profile (subst (λ n. n < zone.rack.profile.zones) zone.of_zone zone.rack.zone_in)
+
+pub can_at : (v : AtView) (zone : Zone) (n : ℕ) → IsReady v zone.profile n → CanCall v zone.profile zone.zone n
+can_at v zone n ready = ready.each zone.zone (zone_in zone)
+
+-- after a call
+
+pub ready_then : (v u : AtView) (p : Profile) (n : ℕ) (mine : List Entry) → IsReady v p n → Goes v mine u → IsReady u p 0
+ready_then v u p n mine ready goes = record { each = λ z below. can_then v u p z n 0 mine (ready.each z below) goes (omega arith) }
+
+pub same_itself : (b : Block) → same_block b b ≡ true
 same_itself b = rw (eq-eqb b.first b.first refl, eq-eqb b.size b.size refl) refl
 
-has_last : (bs : List Block) (b : Block) → has_block (bs ++ b ∷ []) b ≡ true
+pub has_last : (bs : List Block) (b : Block) → has_block (bs ++ b ∷ []) b ≡ true
 has_last [] b = or_left (same_block b b) _ (same_itself b)
 has_last (x ∷ bs) b = or_right (same_block b x) _ (has_last bs b)
+
+-- the hand after a call's entries
+pub hand_after_call : (laws : ZoneLaws) (v u : AtView) (mine : List Entry) → Goes v mine u → hand u.book ≡ hand_through (hand v.book) mine
+hand_after_call laws v u mine goes =
+    ap (λ c. hand_among c u.book.pairs) goes.adds.same.caller
+    ∙ (ap (hand_among v.book.caller) goes.adds.pairs ∙ laws.through v.book.caller v.book.pairs mine)
 
 -- a block that was made is in the hand
 pub handed : (laws : ZoneLaws) (v u : AtView) (z n al : ℕ) (b : BlockView) → Answers v z n al (Ok b) u → IsHandedIn u b
 handed laws v u z n al b a =
-    let hand_is : hand u.book ≡ hand v.book ++ block_of b ∷ [] =
-    ap (λ c. hand_among c u.book.pairs) a.goes.adds.same.caller
-    ∙ (ap (hand_among v.book.caller) a.goes.adds.pairs
-    ∙ (laws.through v.book.caller v.book.pairs a.mine ∙ laws.hand_served _ _ _ a.mine _ (hand v.book) a.serves.served)) in
+    let hand_is : hand u.book ≡ hand v.book ++ block_of b ∷ [] = hand_after_call laws v u a.mine a.goes ∙ laws.hand_served _ _ _ a.mine _ (hand v.book) a.serves.served in
     record {
       in_hand = ap (λ hs. has_block hs (block_of b)) hand_is ∙ has_last (hand v.book) (block_of b);
       space = a.answer.1 ∙ sym a.goes.adds.same.site;
       slot = a.slot;
     }
 
+-- also with other bytes
+pub handed_marked : (v : AtView) (b : BlockView) (x : ℕ) → IsHandedIn v b → IsHandedIn v (with_block_bytes b (replicate (length b.span.bytes) x))
+handed_marked v b x h =
+    let ws : List ℕ = replicate (length b.span.bytes) x in
+    let same : length ws ≡ length b.span.bytes = length-replicate (length b.span.bytes) x in
+    subst (λ d. IsHandedIn v d) (sym (whole_front b ws same)) (record {
+      in_hand = subst (λ k. has_block (hand v.book) (block_at b.span.first k) ≡ true) (sym same) h.in_hand;
+      space = h.space;
+      slot = h.slot;
+    })
+
+-- a refused request goes on from where it began
+
+pub calloc_goes :
+    (laws : ZoneLaws) (v w : AtView) (p : Profile) (z k n m : ℕ) (f : CallocFault) → CanCall v p z k → Callocs v z n m (Err f) w → (mine : List Entry) × Goes v mine w
+calloc_goes laws v w p z k n m calloc.Overflow can r = ([], subst (λ u. Goes v [] u) (sym r.1) (goes_nowhere laws v can.serve.nothing_held can.nano))
+calloc_goes laws v w p z k n m (calloc.Null e) can r = (r.1.mine, r.1.goes)
+
+pub memalign_goes :
+    (laws : ZoneLaws) (v w : AtView) (p : Profile) (z k al n : ℕ) (f : AlignFault) → CanCall v p z k → Memaligns v z al n (Err f) w → (mine : List Entry) × Goes v mine w
+memalign_goes laws v w p z k al n align.BadAlign can r = ([], subst (λ u. Goes v [] u) (sym r.1) (goes_nowhere laws v can.serve.nothing_held can.nano))
+memalign_goes laws v w p z k al n (align.Null e) can r = (r.1.mine, r.1.goes)
+
+-- a block that is known to be one that can be handed in
+pub some_handed : (w : AtView) (o : Option BlockView) (d : BlockView) → IfSome o (λ b. b ≡ d) → IsHandedIn w d → IfSome o (IsHandedIn w)
+some_handed w None d is h = tt
+some_handed w (Some b) d is h = subst (λ x. IsHandedIn w x) (sym is) h
+
+pub some_still : (v w : AtView) (o : Option BlockView) → IfSome o (IsHandedIn v) → ((b : BlockView) → IsHandedIn v b → IsHandedIn w b) → IfSome o (IsHandedIn w)
+some_still v w None h still = tt
+some_still v w (Some b) h still = still b h
+
+-- at first
+
 open_at_first : (p : Profile) → is_open (after_all p opening []) 0 ≡ true
 unfolding after_all
 open_at_first p = refl
 
--- the first call may be made, with nano
-pub can_first :
-    (s : Account) (x : Site) (p q : Profile) (z : ℕ) (nano : Nano) (seat : NanoSeat) → s ≡ opening_account p x → q ≡ p → z ≡ 0 → SitsAt nano seat
-    → first_of nano ≡ nano_start p * PAGE → blocks_of nano ≡ p.nano → space_of nano ≡ x → CanCall (with_seat s nano seat) q z 0
-can_first s x p q z nano seat is same zero sits first blocks space =
-    subst (λ y. CanCall (with_seat s nano seat) q y 0) (sym zero) (subst (λ r. CanCall (with_seat s nano seat) r 0 0) (sym same)
-    (subst (λ t. CanCall (with_seat t nano seat) p 0 0) (sym is) (record {
-      serve = record { profile = refl; zone_open = open_at_first p; nothing_held = record { keepers = refl; lights = refl }; room = omega arith };
-      nano = record { seat = sits; first = first; blocks = blocks; space = space };
-    })))
+pub ready_first :
+    (s t : Account) (x : Site) (p q : Profile) (m : Option Seated) → s ≡ opening_account p x → IsOpening s t → q ≡ p → p.zones ≡ 1 → IsSeatedAt t m
+    → IsReady (record { book = t; nano = m }) q 0
+ready_first s t x p q m is opened same one seat = record {
+  each = λ z below.
+      let e : q.zones ≡ 1 = ap (λ (r : Profile). r.zones) same ∙ one in
+      let first : z ≡ 0 = omega (arith, e, below) in
+      let now : t ≡ record (opening_account p x) { settled = t.settled; founds = t.founds; found = t.found } =
+      opened.after ∙ ap (λ (u : Account). record u { settled = t.settled; founds = t.founds; found = t.found }) is in
+      let can : CanServe (record (opening_account p x) { settled = t.settled; founds = t.founds; found = t.found }) p 0 0 =
+      record { profile = refl; zone_open = open_at_first p; nothing_held = record { keepers = refl; lights = refl }; room = omega arith } in
+      record { serve = subst (λ y. CanServe t q y 0) (sym first) (subst (λ r. CanServe t r 0 0) (sym same) (subst (λ u. CanServe u p 0 0) (sym now) can)); nano = seat };
+}
 
--- the last seat of new ones is one of their nano
+pub seated_first :
+    (s t : Account) (x : Site) (p : Profile) (nano : Nano) (seat : NanoSeat) → s ≡ opening_account p x → IsOpening s t → SitsAt nano seat
+    → first_of nano ≡ nano_start p * PAGE → blocks_of nano ≡ p.nano → space_of nano ≡ x → IsSeatedAt t (Some (record { nano = nano; seat = seat }))
+seated_first s t x p nano seat is opened sits first blocks space =
+    let profile : t.profile ≡ p = ap (λ (u : Account). u.profile) opened.after ∙ ap (λ (u : Account). u.profile) is in
+    let site : t.site ≡ x = ap (λ (u : Account). u.site) opened.after ∙ ap (λ (u : Account). u.site) is in
+    record {
+      seat = sits;
+      first = first ∙ sym (ap (λ (q : Profile). nano_start q * PAGE) profile);
+      blocks = blocks ∙ sym (ap (λ (q : Profile). q.nano) profile);
+      space = space ∙ sym site;
+    }
+
+-- the last seat of new ones is one of their nano, and those before it are new
 pub last_sits : (nano : Nano) (xs ys : List NanoSeat) (x : NanoSeat) → xs ≡ ys ++ x ∷ [] → AllNew nano.table.shared.table_id nano.table.shared.key 0 xs → SitsAt nano x
 last_sits nano xs ys x e news = of_last ys 0 (subst (λ ss. AllNew nano.table.shared.table_id nano.table.shared.key 0 ss) e news)
   where
     of_last : (ss : List NanoSeat) (k : ℕ) → AllNew nano.table.shared.table_id nano.table.shared.key k (ss ++ x ∷ []) → SitsAt nano x
     of_last [] k a = (a.0.one, a.0.parts)
     of_last (s ∷ ss) k a = of_last ss (k + 1) a.1
+
+-- a slot is pushed whose block stays live
+
+module _ (s : Account) (refs : Option (Bor Nano × MutBor NanoSeat)) (both : Bor Nano × MutBor NanoSeat) (is : refs ≡ Some both) where
+  pub may_push :
+      (p : Profile) (z n : ℕ) (x : SlotView) → CanCall (record { book = s; nano = seated refs }) p z n → IsHandedIn (record { book = s; nano = seated refs }) (of_slot x)
+      → SitsAt both.0.now both.1.now × In (held_of x) (hand_of both.1.now) × ((x.span.space ≡ space_of both.0.now) × (x.base ≡ first_of both.0.now))
+  may_push p z n x can handed =
+      let can_there : CanCall (with_seat s both.0.now both.1.now) p z n = subst (λ r. CanCall (record { book = s; nano = seated r }) p z n) is can in
+      let there : IsHandedIn (with_seat s both.0.now both.1.now) (of_slot x) = subst (λ r. IsHandedIn (record { book = s; nano = seated r }) (of_slot x)) is handed in
+      (can_there.nano.seat, there.slot.1, (there.space ∙ sym can_there.nano.space, there.slot.0))
+
+  pub ready_pushed :
+      (p : Profile) (x : SlotView) (b : NanoSeat) → IsReady (record { book = s; nano = seated refs }) p 0 → IsPutBack both.0.now both.1.now x b
+      → IsReady (with_seat s both.0.now b) p 0
+  ready_pushed p x b ready put = record {
+    each = λ z below.
+        let can : CanCall (with_seat s both.0.now both.1.now) p z 0 = subst (λ r. CanCall (record { book = s; nano = seated r }) p z 0) is (ready.each z below) in
+        record { serve = can.serve; nano = record { seat = put.same.sits; first = can.nano.first; blocks = can.nano.blocks; space = can.nano.space } };
+  }

@@ -11,3 +11,4 @@ pub mod Freeing
 pub mod Moving
 pub mod Batches
 pub mod Resizing
+pub mod Tested

@@ -10,7 +10,3 @@ profile_code =
     (λ p. (p.pages, (p.callers, (p.magazines, (p.nano, (p.most_gen, p.zones))))))
     (λ t. record { pages = t.0; callers = t.1.0; magazines = t.1.1.0; nano = t.1.1.1.0; most_gen = t.1.1.1.1.0; zones = t.1.1.1.1.1 })
     (λ _. refl)
-
--- that of the tests
-abbrev pub tested : Profile
-tested = record { pages = 130; callers = 1; magazines = 1; nano = 2; most_gen = 1024; zones = 1 }

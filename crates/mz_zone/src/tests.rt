@@ -1,17 +1,621 @@
-ghost use Rattle.std.specs.Prelude.{◌≡◌};
-ghost use Rattle.mz_base.specs.Limits.{IsWithinLimits};
-ghost use Rattle.mz_zone.specs.Calling.{seen, CanCall};
-ghost use Rattle.mz_zone.specs.Profiles.{tested};
+ghost use Rattle.std.specs.Prelude.{◌≡◌, ℕ, ◌<◌, ◌≤◌, List, Some, length, replicate, IfOk, IfSome};
+ghost use Rattle.mz_base.specs.Limits.{IsWithinLimits, IsFrom};
+ghost use Rattle.mz_base.specs.Space.{block_at, same_block};
+ghost use Rattle.mz_events.specs.declared.entry.Entry.{Entry as entry};
+ghost use Rattle.mz_zone.specs.Blocks.{BlockView, block_of, of_slot, with_block_bytes};
+ghost use Rattle.mz_zone.specs.Calling.{seen, AtView, CanCall, Goes, IsHandedIn};
+ghost use Rattle.mz_zone.specs.Tested.{tested, IsReady, IsLeft, IsOpening, block_in};
 
-use crate::{At, Block, Zone};
+use crate::block::Inner;
+use crate::laws::of_zones;
+use crate::nano::put_back;
+use crate::{At, Block, ReallocFault, SizeFault, Zone};
 use mz_base::Profile;
 use mz_book::{Book, PlainBook};
+use mz_events::{Entry, Event, Place};
 use mz_ground::Space;
-use mz_nano::Nano;
+use mz_nano::{Nano, SlotSpan};
 use mz_rack::Keeper;
-use std::alloc::AllocError;
+use std::alloc::{AllocError, Global};
+use std::process::Abort;
 use std::sync::Wait;
 use std::test::Fail;
+
+mod calls;
+mod moves;
+mod nano;
+mod refusals;
+
+const TINY: Place = Place::Tiny { zone: 0, mag: 0 };
+
+const TINY_DEPOT: Place = Place::TinyDepot { zone: 0 };
+
+const SMALL: Place = Place::Small { zone: 0, mag: 0 };
+
+const SMALL_DEPOT: Place = Place::SmallDepot { zone: 0 };
+
+const LARGE: Place = Place::Large { zone: 0 };
+
+// A call that makes a block.
+#[derive(Clone, Copy, Debug, PartialEq, Eq)]
+enum Request {
+    Malloc(u64),
+    Valloc(u64),
+    Calloc(u64, u64),
+    Memalign(u64, u64),
+}
+
+// What is done at a zone. At most one block is at hand.
+#[derive(Clone, Copy, Debug, PartialEq, Eq)]
+enum Step {
+    // The block that is made is at hand then.
+    Make(Request),
+    // The block that is made is left alone.
+    Leave(u64),
+    // Blocks of so many bytes are made, so many, and left alone. None is at hand then.
+    Batch(u64, u64),
+    Realloc(u64),
+    Free,
+    FreeOfSize(u64),
+    // The slot of the block at hand is pushed, and the block stays live.
+    Push,
+}
+
+// How a step is answered.
+#[derive(Clone, Copy, Debug, PartialEq, Eq)]
+enum Answer {
+    // A block with this first address and so many bytes. It shows what it should.
+    Block(u64, u64),
+    // So many blocks came.
+    Blocks(usize),
+    // So many blocks came, and then none.
+    NoMore(usize),
+    Freed,
+    Pushed,
+    // The number of a refusal. A block that was handed in came back as it was.
+    Refused(u8),
+    // The block that was handed in has so many bytes, and came back as it was.
+    WrongSize(u64),
+    // A block shows other bytes, or another one came back.
+    Spoiled,
+    NothingAtHand,
+}
+
+// A block as it was when it was marked: its first address, and its size.
+#[derive(Clone, Copy, Debug, PartialEq, Eq)]
+struct Mark {
+    first: u64,
+    size: u64,
+}
+
+// The byte that marks a block at this address.
+fn byte_at(first: u64) -> u8 {
+    (first / 16 % 251) as u8 + 1
+}
+
+// Whether all these bytes are this one.
+fn are_all(bytes: &[u8], x: u8) -> bool {
+    bytes.iter().all(|b| *b == x)
+}
+
+// Whether the first `n` bytes of the block, as many as it has, are all this one.
+fn shows(block: &Block, n: u64, x: u8) -> bool {
+    let bytes = block.bytes();
+    let len = bytes.len().min(n as usize);
+    are_all(&bytes[..len], x)
+}
+
+// Marks all bytes of the block.
+fn write_mark(block: &mut Block, x: u8)
+    ensures { block.new ≡ with_block_bytes block.old (replicate (length block.old.span.bytes) x) }
+{
+    fill(block.bytes_mut(), x);
+}
+
+fn fill(bytes: &mut [u8], x: u8)
+    ensures { bytes.new ≡ replicate (length bytes.old) x }
+{
+    bytes.fill(x);
+}
+
+fn mark_of(block: &Block) -> Mark
+    ensures first { result.first ≡ block.now.span.first }
+    ensures size { result.size ≡ length block.now.span.bytes }
+{
+    Mark {
+        first: block.first(),
+        size: block.size(),
+    }
+}
+
+// Whether the block is where it was when it was marked, of the same size.
+fn is_same(block: &Block, was: Mark) -> bool
+    ensures { result ≡ same_block (block_at was.first was.size) (block_of block.now) }
+{
+    was.first == block.first() && was.size == block.size()
+}
+
+// Whether the block is as it was when it was marked.
+fn is_as_marked(block: &Block, was: Mark) -> bool {
+    is_same(block, was) && shows(block, was.size, byte_at(was.first))
+}
+
+// The first bytes of the block that is asked for have to be 0: so many.
+fn zeros(request: Request) -> u64 {
+    match request {
+        Request::Calloc(n, m) => n.saturating_mul(m),
+        _ => 0,
+    }
+}
+
+// Makes room for so many entries.
+fn make_room(zone: &Zone, at: &mut At<PlainBook<Keeper>>, n: u64) -> Result<(), AllocError>
+    requires { IsReady (seen ⟦<PlainBook<Keeper> as Book<Keeper>>⟧.account at.old) zone.now.profile 0 }
+    ensures ready { IfOk result (λ u. IsReady (seen ⟦<PlainBook<Keeper> as Book<Keeper>>⟧.account at.new) zone.now.profile n) }
+    ensures held { IfOk result (λ u. (b : BlockView) → IsHandedIn (seen ⟦<PlainBook<Keeper> as Book<Keeper>>⟧.account at.old) b → IsHandedIn (seen ⟦<PlainBook<Keeper> as Book<Keeper>>⟧.account at.new) b) }
+{
+    at.book.reserve(n)?;
+    Ok(())
+}
+
+// Makes a block, or says by which number that was refused.
+fn make<R: Wait>(
+    rt: &R,
+    zone: &Zone,
+    at: &mut At<PlainBook<Keeper>>,
+    request: Request,
+) -> Result<Block, u8>
+    requires { CanCall (seen ⟦<PlainBook<Keeper> as Book<Keeper>>⟧.account at.old) zone.now.profile zone.now.zone 40 }
+    ensures goes { (mine : List entry) × Goes (seen ⟦<PlainBook<Keeper> as Book<Keeper>>⟧.account at.old) mine (seen ⟦<PlainBook<Keeper> as Book<Keeper>>⟧.account at.new) }
+    ensures made { IfOk result (IsHandedIn (seen ⟦<PlainBook<Keeper> as Book<Keeper>>⟧.account at.new)) }
+{
+    of_zones();
+    match request {
+        Request::Malloc(n) => match zone.malloc(rt, at, n) {
+            Ok(b) => Ok(b),
+            Err(null) => Err(null.number()),
+        },
+        Request::Valloc(n) => match zone.valloc(rt, at, n) {
+            Ok(b) => Ok(b),
+            Err(null) => Err(null.number()),
+        },
+        Request::Calloc(n, m) => match zone.calloc(rt, at, n, m) {
+            Ok(b) => Ok(b),
+            Err(fault) => Err(fault.number()),
+        },
+        Request::Memalign(al, n) => match zone.memalign(rt, at, al, n) {
+            Ok(b) => Ok(b),
+            Err(fault) => Err(fault.number()),
+        },
+    }
+}
+
+// A block that came is marked, and at hand then.
+fn marked(block: Block) -> (Option<Block>, Answer)
+    ensures { (v : AtView) → IsHandedIn v block → IfSome result.0 (IsHandedIn v) }
+{
+    let mut b = block;
+    let x = byte_at(b.first());
+    write_mark(&mut b, x);
+    let answer = Answer::Block(b.first(), b.size());
+    (Some(b), answer)
+}
+
+// Makes a block, marks it, and puts it in place of the one at hand.
+fn put_at_hand<R: Wait>(
+    rt: &R,
+    zone: &Zone,
+    at: &mut At<PlainBook<Keeper>>,
+    request: Request,
+) -> Result<(Option<Block>, Answer), AllocError>
+    requires { IsReady (seen ⟦<PlainBook<Keeper> as Book<Keeper>>⟧.account at.old) zone.now.profile 0 }
+    ensures { IfOk result (λ r. IsLeft (seen ⟦<PlainBook<Keeper> as Book<Keeper>>⟧.account at.new) zone.now.profile r.0) }
+{
+    make_room(zone, at, 40)?;
+    let b = match make(rt, zone, at, request) {
+        Ok(b) => b,
+        Err(number) => return Ok((None, Answer::Refused(number))),
+    };
+    if !shows(&b, zeros(request), 0) {
+        return Ok((None, Answer::Spoiled));
+    }
+    Ok(marked(b))
+}
+
+// Makes a block and leaves it alone.
+fn leave<R: Wait>(
+    rt: &R,
+    zone: &Zone,
+    at: &mut At<PlainBook<Keeper>>,
+    held: Option<Block>,
+    n: u64,
+) -> Result<(Option<Block>, Answer), AllocError>
+    requires { IsLeft (seen ⟦<PlainBook<Keeper> as Book<Keeper>>⟧.account at.old) zone.now.profile held }
+    ensures { IfOk result (λ r. IsLeft (seen ⟦<PlainBook<Keeper> as Book<Keeper>>⟧.account at.new) zone.now.profile r.0) }
+{
+    of_zones();
+    make_room(zone, at, 40)?;
+    match zone.malloc(rt, at, n) {
+        Ok(b) => Ok((held, Answer::Block(b.first(), b.size()))),
+        Err(null) => Ok((None, Answer::Refused(null.number()))),
+    }
+}
+
+// Makes blocks, which are left alone, as the one at hand.
+fn batch<R: Wait>(
+    rt: &R,
+    alloc: Global,
+    zone: &Zone,
+    at: &mut At<PlainBook<Keeper>>,
+    n: u64,
+    count: u64,
+) -> Result<(Option<Block>, Answer), AllocError>
+    requires ready { IsReady (seen ⟦<PlainBook<Keeper> as Book<Keeper>>⟧.account at.old) zone.now.profile 0 }
+    requires few { count ≤ 64 }
+    ensures { IfOk result (λ r. IsLeft (seen ⟦<PlainBook<Keeper> as Book<Keeper>>⟧.account at.new) zone.now.profile r.0) }
+{
+    make_room(zone, at, 40 * count)?;
+    let mut out = Vec::with_capacity(alloc, count as usize)?;
+    match zone.batch_malloc(rt, at, n, count, &mut out) {
+        Ok(()) => Ok((None, Answer::Blocks(out.len()))),
+        Err(_null) => Ok((None, Answer::NoMore(out.len()))),
+    }
+}
+
+// How many bytes of a marked block another size keeps.
+fn kept(was: Mark, b: &Block, n: u64) -> u64 {
+    if b.first() == was.first {
+        was.size.min(b.size())
+    } else {
+        was.size.min(n)
+    }
+}
+
+// A block that comes back with this number is at hand still, if it is as it was.
+fn come_back(block: Block, was: Mark, number: u8) -> (Option<Block>, Answer)
+    ensures { IfSome result.0 (λ b. b ≡ block) }
+{
+    if is_as_marked(&block, was) {
+        (Some(block), Answer::Refused(number))
+    } else {
+        (None, Answer::Spoiled)
+    }
+}
+
+// Where no block is at hand this makes one.
+fn realloc_none<R: Wait>(
+    rt: &R,
+    zone: &Zone,
+    at: &mut At<PlainBook<Keeper>>,
+    n: u64,
+) -> Result<(Option<Block>, Answer), AllocError>
+    requires { IsReady (seen ⟦<PlainBook<Keeper> as Book<Keeper>>⟧.account at.old) zone.now.profile 0 }
+    ensures { IfOk result (λ r. IsLeft (seen ⟦<PlainBook<Keeper> as Book<Keeper>>⟧.account at.new) zone.now.profile r.0) }
+{
+    of_zones();
+    make_room(zone, at, 40)?;
+    match zone.realloc(rt, at, None, n) {
+        Ok(b) => Ok(marked(b)),
+        Err(fault) => Ok((None, Answer::Refused(fault.number()))),
+    }
+}
+
+// Gives the block at hand another size, and marks it anew. A block that is where it was, of the same size, stayed
+// there without an entry.
+fn realloc<R: Wait>(
+    rt: &R,
+    zone: &Zone,
+    at: &mut At<PlainBook<Keeper>>,
+    held: Option<Block>,
+    n: u64,
+) -> Result<(Option<Block>, Answer), AllocError>
+    requires { IsLeft (seen ⟦<PlainBook<Keeper> as Book<Keeper>>⟧.account at.old) zone.now.profile held }
+    ensures { IfOk result (λ r. IsLeft (seen ⟦<PlainBook<Keeper> as Book<Keeper>>⟧.account at.new) zone.now.profile r.0) }
+{
+    of_zones();
+    let Some(b) = held else {
+        return realloc_none(rt, zone, at, n);
+    };
+    make_room(zone, at, 40)?;
+    let was = mark_of(&b);
+    let before = at.book.history().len();
+    let new = match zone.realloc(rt, at, Some(b), n) {
+        Ok(new) => new,
+        Err(fault) => return Ok(unchanged(fault, was)),
+    };
+    if at.book.history().len() == before {
+        return Ok(kept_at_hand(new, was, n));
+    }
+    if is_same(&new, was) {
+        return Ok((None, Answer::Spoiled));
+    }
+    Ok(kept_at_hand(new, was, n))
+}
+
+// A block that got another size is marked anew, and at hand still, if it shows what it is to keep.
+fn kept_at_hand(new: Block, was: Mark, n: u64) -> (Option<Block>, Answer)
+    ensures { (v : AtView) → IsHandedIn v new → IfSome result.0 (IsHandedIn v) }
+{
+    if shows(&new, kept(was, &new, n), byte_at(was.first)) {
+        marked(new)
+    } else {
+        (None, Answer::Spoiled)
+    }
+}
+
+// What comes back where a block got no other size.
+fn unchanged(fault: ReallocFault, was: Mark) -> (Option<Block>, Answer)
+    ensures { IfSome result.0 (λ b. block_in fault ≡ Some b) }
+{
+    let number = fault.number();
+    match fault {
+        ReallocFault::NotLive(fault) => come_back(fault.block, was, number),
+        ReallocFault::Null {
+            block: Some(block),
+            ..
+        } => come_back(block, was, number),
+        ReallocFault::Null { block: None, .. } => (None, Answer::Refused(number)),
+    }
+}
+
+// Frees the block at hand.
+fn free<R: Wait>(
+    rt: &R,
+    zone: &Zone,
+    at: &mut At<PlainBook<Keeper>>,
+    held: Option<Block>,
+) -> Result<(Option<Block>, Answer), AllocError>
+    requires { IsLeft (seen ⟦<PlainBook<Keeper> as Book<Keeper>>⟧.account at.old) zone.now.profile held }
+    ensures { IfOk result (λ r. IsLeft (seen ⟦<PlainBook<Keeper> as Book<Keeper>>⟧.account at.new) zone.now.profile r.0) }
+{
+    of_zones();
+    let Some(b) = held else {
+        return Ok((None, Answer::NothingAtHand));
+    };
+    make_room(zone, at, 40)?;
+    let was = mark_of(&b);
+    match zone.free(rt, at, b) {
+        Ok(()) => Ok((None, Answer::Freed)),
+        Err(fault) => {
+            let number = fault.number();
+            Ok(come_back(fault.block, was, number))
+        }
+    }
+}
+
+// Frees the block at hand by its size.
+fn free_of_size<R: Wait>(
+    rt: &R,
+    zone: &Zone,
+    at: &mut At<PlainBook<Keeper>>,
+    held: Option<Block>,
+    n: u64,
+) -> Result<(Option<Block>, Answer), AllocError>
+    requires { IsLeft (seen ⟦<PlainBook<Keeper> as Book<Keeper>>⟧.account at.old) zone.now.profile held }
+    ensures { IfOk result (λ r. IsLeft (seen ⟦<PlainBook<Keeper> as Book<Keeper>>⟧.account at.new) zone.now.profile r.0) }
+{
+    of_zones();
+    let Some(b) = held else {
+        return Ok((None, Answer::NothingAtHand));
+    };
+    make_room(zone, at, 40)?;
+    let was = mark_of(&b);
+    let fault = match zone.free_definite_size(rt, at, b, n) {
+        Ok(()) => return Ok((None, Answer::Freed)),
+        Err(fault) => fault,
+    };
+    let number = fault.number();
+    match fault {
+        SizeFault::NotLive(fault) => Ok(come_back(fault.block, was, number)),
+        SizeFault::WrongSize { block, held } => {
+            if number == 5 && is_as_marked(&block, was) {
+                return Ok((Some(block), Answer::WrongSize(held)));
+            }
+            Ok((None, Answer::Spoiled))
+        }
+    }
+}
+
+// Pushes the slot of the block at hand, which stays live.
+fn push<R: Wait>(
+    rt: &R,
+    zone: &Zone,
+    at: &mut At<PlainBook<Keeper>>,
+    held: Option<Block>,
+) -> Result<(Option<Block>, Answer), AllocError>
+    requires { IsLeft (seen ⟦<PlainBook<Keeper> as Book<Keeper>>⟧.account at.old) zone.now.profile held }
+    ensures { IfOk result (λ r. IsLeft (seen ⟦<PlainBook<Keeper> as Book<Keeper>>⟧.account at.new) zone.now.profile r.0) }
+{
+    let Some(b) = held else {
+        return Ok((None, Answer::NothingAtHand));
+    };
+    let Inner::Slot(slot) = b.inner else {
+        return Ok((None, Answer::NothingAtHand));
+    };
+    push_slot(rt, zone, at, slot);
+    Ok((None, Answer::Pushed))
+}
+
+// Pushes the slot of a block that stays live.
+fn push_slot<R: Wait>(rt: &R, zone: &Zone, at: &mut At<PlainBook<Keeper>>, slot: SlotSpan)
+    requires ready { IsReady (seen ⟦<PlainBook<Keeper> as Book<Keeper>>⟧.account at.old) zone.now.profile 0 }
+    requires block { IsHandedIn (seen ⟦<PlainBook<Keeper> as Book<Keeper>>⟧.account at.old) (of_slot slot) }
+    ensures { IsReady (seen ⟦<PlainBook<Keeper> as Book<Keeper>>⟧.account at.new) zone.now.profile 0 }
+{
+    let _ = zone;
+    let Some(both) = &mut at.nano else {
+        unreachable!()
+    };
+    put_back(rt, both.0, both.1, slot);
+}
+
+// Does a step. Another one can be done then.
+fn go<R: Wait>(
+    rt: &R,
+    alloc: Global,
+    zone: &Zone,
+    at: &mut At<PlainBook<Keeper>>,
+    held: Option<Block>,
+    step: Step,
+) -> Result<(Option<Block>, Answer), AllocError>
+    requires { IsLeft (seen ⟦<PlainBook<Keeper> as Book<Keeper>>⟧.account at.old) zone.now.profile held }
+    ensures { IfOk result (λ r. IsLeft (seen ⟦<PlainBook<Keeper> as Book<Keeper>>⟧.account at.new) zone.now.profile r.0) }
+{
+    match step {
+        Step::Make(request) => put_at_hand(rt, zone, at, request),
+        Step::Leave(n) => leave(rt, zone, at, held, n),
+        Step::Batch(n, count) => batch(rt, alloc, zone, at, n, count.min(64)),
+        Step::Realloc(n) => realloc(rt, zone, at, held, n),
+        Step::Free => free(rt, zone, at, held),
+        Step::FreeOfSize(n) => free_of_size(rt, zone, at, held, n),
+        Step::Push => push(rt, zone, at, held),
+    }
+}
+
+// Does these steps, each of which has its answer, and answers the block that is at hand then.
+fn go_on<R: Wait + Abort>(
+    rt: &R,
+    alloc: Global,
+    zone: &Zone,
+    at: &mut At<PlainBook<Keeper>>,
+    first: Option<Block>,
+    steps: &[(Step, Answer)],
+) -> Result<Option<Block>, AllocError>
+    requires { IsLeft (seen ⟦<PlainBook<Keeper> as Book<Keeper>>⟧.account at.old) zone.now.profile first }
+    ensures { IfOk result (IsLeft (seen ⟦<PlainBook<Keeper> as Book<Keeper>>⟧.account at.new) zone.now.profile) }
+{
+    let mut held = first;
+    for (step, right) in steps {
+        let (next, answer) = go(rt, alloc, zone, at, held, *step)?;
+        assert_eq!(rt; answer, *right, "at {step:?}");
+        held = next;
+    }
+    Ok(held)
+}
+
+// Sees that these events were noted, and no others.
+fn see_events<R: Abort>(rt: &R, history: &[Entry], events: &[Event]) {
+    for (entry, event) in history.iter().zip(events) {
+        assert_eq!(rt; entry.event, *event, "at {entry:?}");
+    }
+    assert_eq!(rt; history.len(), events.len());
+}
+
+fn profile(pages: u64, nano: u64) -> Profile
+    requires pages { IsFrom 1 16384 pages }
+    requires nano { IsFrom 0 1024 nano }
+    requires within { nano ≤ pages }
+    ensures limits { IsWithinLimits result }
+    ensures same { result ≡ tested pages nano 1 }
+{
+    Profile {
+        pages,
+        callers: 2,
+        magazines: 1,
+        nano,
+        most_gen: 1_024,
+        zones: 1,
+    }
+}
+
+// Does the steps in a space of so many pages without nano.
+fn without_nano<R: Wait + Abort>(
+    rt: &R,
+    alloc: Global,
+    pages: u64,
+    steps: &[(Step, Answer)],
+    events: &[Event],
+) -> Result<(), Fail>
+    requires { IsFrom 1 16384 pages }
+{
+    let p = profile(pages, 0);
+    let span = Space::new(alloc, p.pages)?;
+    let keepers = Keeper::all(alloc, &p, span)?;
+    let mut book = PlainBook::new(alloc, &p, keepers)?;
+    let zone = Zone::new(alloc, &p, 0)?;
+    let mut at = At {
+        book: &mut book,
+        nano: None,
+    };
+    go_on(rt, alloc, &zone, &mut at, None, steps)?;
+    see_events(rt, at.book.history(), events);
+    Ok(())
+}
+
+// Does the steps in a space of so many pages, of which the last two are nano's. The first of these has a class
+// already, where one is given. Answers how often a slot was popped, and how often there was none.
+fn with_nano<R: Wait + Abort>(
+    rt: &R,
+    alloc: Global,
+    pages: u64,
+    class: Option<u64>,
+    steps: &[(Step, Answer)],
+    events: &[Event],
+) -> Result<(u64, u64), Fail>
+    requires pages { IsFrom 2 16384 pages }
+    requires class { IfSome class (λ c. (1 ≤ c) × (c ≤ 16)) }
+{
+    let p = profile(pages, 2);
+    let span = Space::new(alloc, p.pages)?;
+    let (low, high) = span.split((p.pages - p.nano) * 16_384);
+    let keepers = Keeper::all(alloc, &p, low)?;
+    let mut book = PlainBook::new(alloc, &p, keepers)?;
+    settle_first(&mut book, class);
+    let (nano, mut seats) = Nano::open(alloc, high, p.most_gen, p.callers)?;
+    let Some(mut seat) = seats.pop() else {
+        return Err(Fail::new("there are two seats"));
+    };
+    let zone = Zone::new(alloc, &p, 0)?;
+    let there = Some((&nano, &mut seat));
+    let mut at = At {
+        book: &mut book,
+        nano: there,
+    };
+    go_on(rt, alloc, &zone, &mut at, None, steps)?;
+    see_events(rt, at.book.history(), events);
+    Ok((seat.tries(), seat.misses()))
+}
+
+// Gives nano's first page a class, where there is one.
+fn settle_first(book: &mut PlainBook<Keeper>, class: Option<u64>)
+    requires pages { 1 ≤ (⟦<PlainBook<Keeper> as Book<Keeper>>⟧.account book.old).profile.nano }
+    requires class { IfSome class (λ c. (1 ≤ c) × (c ≤ 16)) }
+    ensures { IsOpening (⟦<PlainBook<Keeper> as Book<Keeper>>⟧.account book.old) (⟦<PlainBook<Keeper> as Book<Keeper>>⟧.account book.new) }
+{
+    if let Some(class) = class {
+        let _ = book.settle(0, class);
+    }
+}
+
+fn full(k: Place, n: u64) -> Event {
+    let al = if k == LARGE { 1 } else { 16 };
+    Event::Full { k, n, al }
+}
+
+fn take(k: Place, first: u64, pages: u64) -> Event {
+    Event::Take { k, first, pages }
+}
+
+fn new(k: Place, a: u64, s: u64) -> Event {
+    Event::New { k, a, s, al: 16 }
+}
+
+fn new_at(k: Place, a: u64, s: u64, al: u64) -> Event {
+    Event::New { k, a, s, al }
+}
+
+fn end(k: Place, a: u64, s: u64) -> Event {
+    Event::End { k, a, s }
+}
+
+fn size(k: Place, a: u64, s: u64, s2: u64) -> Event {
+    Event::Size { k, a, s, s2 }
+}
+
+fn dry(pages: u64, al: u64) -> Event {
+    let zone = 0;
+    Event::Dry { zone, pages, al }
+}
 
 fn is_send_and_sync<T: Send + Sync>() {}
 
@@ -19,70 +623,4 @@ fn is_send_and_sync<T: Send + Sync>() {}
 fn blocks_and_zones_go_from_thread_to_thread() {
     is_send_and_sync::<Block>();
     is_send_and_sync::<Zone>();
-}
-
-// Makes a block and frees it, and answers its zone, first address and size. A call can be made again then.
-fn make_and_free<R: Wait>(
-    rt: &R,
-    zone: &Zone,
-    at: &mut At<PlainBook<Keeper>>,
-    n: u64,
-) -> Result<Option<(u32, u64, u64)>, AllocError>
-    requires { CanCall (seen ⟦<PlainBook<Keeper> as Book<Keeper>>⟧.account at.old) zone.now.profile zone.now.zone 0 }
-    ensures { CanCall (seen ⟦<PlainBook<Keeper> as Book<Keeper>>⟧.account at.new) zone.now.profile zone.now.zone 0 }
-{
-    crate::laws::of_zones();
-    at.book.reserve(40)?;
-    let Ok(b) = zone.malloc(rt, at, n) else {
-        return Ok(None);
-    };
-    let made = (b.zone(), b.first(), b.size());
-    at.book.reserve(40)?;
-    match zone.free(rt, at, b) {
-        Ok(()) => Ok(Some(made)),
-        Err(_) => Ok(None),
-    }
-}
-
-// A profile of 128 pages and two of nano, for one caller and one zone.
-fn profile() -> Profile
-    ensures limits { IsWithinLimits result }
-    ensures pages { result ≡ tested }
-{
-    Profile {
-        pages: 130,
-        callers: 1,
-        magazines: 1,
-        nano: 2,
-        most_gen: 1024,
-        zones: 1,
-    }
-}
-
-#[test]
-fn nano_serves_small_requests_and_the_rack_the_others(rt: HostRuntime) -> Result<(), Fail> {
-    let p = profile();
-    let span = Space::new(rt.alloc(), p.pages)?;
-    let (low, high) = span.split((p.pages - p.nano) * 16_384);
-    let keepers = Keeper::all(rt.alloc(), &p, low)?;
-    let mut book = PlainBook::new(rt.alloc(), &p, keepers)?;
-    let (nano, mut seats) = Nano::open(rt.alloc(), high, p.most_gen, p.callers)?;
-    let Some(mut seat) = seats.pop() else {
-        return Err(Fail::new("one seat"));
-    };
-    let zone = Zone::new(rt.alloc(), &p, 0)?;
-    let there = Some((&nano, &mut seat));
-    let mut at = At {
-        book: &mut book,
-        nano: there,
-    };
-    // A slot of class 4 at the first of nano's pages, and a block of tiny at the first of all.
-    let small = make_and_free(&rt, &zone, &mut at, 60)?;
-    assert_eq!(rt; small, Some((0, 128 * 16_384, 64)));
-    let greater = make_and_free(&rt, &zone, &mut at, 300)?;
-    assert_eq!(rt; greater, Some((0, 0, 304)));
-    assert_eq!(rt; (seat.tries(), seat.misses()), (1, 0));
-    // `new` and `end`; `full`, `full`, `take`, `new` and `end`.
-    assert_eq!(rt; book.history().len(), 7);
-    Ok(())
 }

@@ -171,6 +171,7 @@ module _ (laws : ZoneLaws) (v u : AtView) (z n : ℕ) (b d : BlockView) (stuck :
       let from : length u.book.seen ≤ a.t = a.before.all_seen in
       record {
         mine = a.mine;
+        few = a.few;
         goes = goes_on laws v u w [] a.mine stuck.goes a.goes;
         t = a.t;
         before = record { all_seen = omega (arith, seen, long, from); none_noted = a.before.none_noted };
@@ -179,6 +180,7 @@ module _ (laws : ZoneLaws) (v u : AtView) (z n : ℕ) (b d : BlockView) (stuck :
             (subst (λ (p : Profile). IsMoved p w.book.seen a.t a.t u.book.caller z (block_of b) n a.mine (block_got got)) stuck.goes.adds.same.profile a.moved);
         answer = subst (λ x. IsAnswer z x a.mine got) stuck.goes.adds.same.site a.answer;
         slot = a.slot;
+        elsewhere = a.elsewhere;
         bytes = a.bytes;
         hand = a.hand ∙ ap (hand_moved b got) stuck.hand;
         tries =

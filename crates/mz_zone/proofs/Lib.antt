@@ -11,10 +11,13 @@ pub mod Enough
 pub mod Clearing
 pub mod Copied
 pub mod Noted
+pub mod Elsewhere
 pub mod Moved
+pub mod HandedAgain
 pub mod InPlace
 pub mod Summed
 pub mod Batched
 pub mod Ended
 pub mod Tested
+pub mod TwoZones
 pub mod StillHandedIn

@@ -5,20 +5,20 @@ use Rattle.std.specs.List.{list_any}
 use Rattle.std.specs.Option.{option_to_list}
 use Rattle.std.proofs.lemmas.List.Folds.{list_any-append}
 use Rattle.mz_base.specs.declared.profile.Profile.{Profile}
-use Rattle.mz_base.specs.Space.{Block, same_block, block_at}
-use Rattle.mz_base.specs.Sizes.{units_of}
-use Rattle.mz_base.specs.Sizes.{good_size_of}
+use Rattle.mz_base.specs.Space.{Block, block_at}
+use Rattle.mz_base.specs.Sizes.{units_of, good_size_of}
 use Rattle.mz_base.specs.Lists.{has_block}
 use Rattle.mz_events.specs.declared.entry.Entry.{Entry}
 use Rattle.mz_events.specs.declared.event.Event.{Event}
 use Rattle.mz_events.specs.declared.event.Event.TheVariants.{New, Size}
+use Rattle.mz_events.specs.Hands.{hand_through}
 use Rattle.mz_events.specs.State.{opening}
 use Rattle.mz_events.specs.History.{AreLawful}
 use Rattle.mz_record.specs.Bytes.{kept, kept_in_move, is_shown_as}
 use Rattle.mz_record.specs.Served.{Serves, block_made, blocks_made}
 use Rattle.mz_record.specs.Dropped.{IsDropped}
 use Rattle.mz_record.specs.Resized.{moving_request, moved, Moves, to_nothing, between_ranges, out_of_nano, large, hemmed_in, IsHemmedIn, not_moved}
-use Rattle.std.proofs.lemmas.Bool.{false≢true, and_parts, eqb-true}
+use Rattle.std.proofs.lemmas.Bool.{and_parts, eqb-true}
 use Rattle.mz_book.specs.Account.{Account, IsOrderly, hand}
 use Rattle.mz_book.specs.Pairs.{hand_among}
 use Rattle.mz_rack.specs.declared.lot.Null.{Null}
@@ -36,6 +36,7 @@ use Rattle.mz_zone.specs.Freeing.{Frees}
 use Rattle.mz_zone.specs.Moving.{MovesOn, known}
 use Rattle.mz_zone.specs.Resizing.{MovesNow, CopiesInto}
 use Rattle.mz_zone.specs.ZoneLaws.{ZoneLaws}
+use Rattle.mz_zone.proofs.Elsewhere.{front_there, begins_elsewhere}
 use Rattle.mz_zone.proofs.Going.{goes_on}
 use Rattle.mz_zone.proofs.Clearing.{whole_front}
 use Rattle.mz_zone.proofs.Copied.{shown_kept, written_length}
@@ -74,31 +75,28 @@ pub stays_so :
     → MovesOn v z b n (Err e) w
 stays_so laws v w z n b e orderly a moves = record {
   mine = a.mine;
+  few = let f = a.few in omega (arith, f);
   goes = a.goes;
   t = length v.book.seen;
   before = none_before v w a.mine a.goes laws orderly;
   moved = not_moved (later_moves laws v w a.mine (block_of b) n orderly a.goes moves) a.serves refl;
   answer = a.answer;
   slot = a.slot;
+  elsewhere = tt;
   bytes = tt;
   hand = a.hand;
   tries = a.tries;
 }
 
-has_front : (xs ys : List Block) (b : Block) → has_block xs b ≡ true → has_block (xs ++ ys) b ≡ true
-has_front [] ys b h = absurd (false≢true h)
-has_front (x ∷ xs) ys b h = by_test (same_block b x) refl (has_front xs ys b)
-  where
-    by_test : (t : Bool) → same_block b x ≡ t → (has_block xs b ≡ true → has_block (xs ++ ys) b ≡ true) → (same_block b x || has_block (xs ++ ys) b) ≡ true
-    by_test true e n = rw e
-    by_test false e n = rw e (n (rw e at h))
+-- the hand after a call's entries
+pub hand_after_call : (laws : ZoneLaws) (v u : AtView) (mine : List Entry) → Goes v mine u → hand u.book ≡ hand_through (hand v.book) mine
+hand_after_call laws v u mine goes =
+    ap (λ c. hand_among c u.book.pairs) goes.adds.same.caller
+    ∙ (ap (hand_among v.book.caller) goes.adds.pairs ∙ laws.through v.book.caller v.book.pairs mine)
 
 -- after a request the hand has the new block behind the others
-hand_then : (laws : ZoneLaws) (v u : AtView) (z n al : ℕ) (d : BlockView) → Answers v z n al (Ok d) u → hand u.book ≡ hand v.book ++ block_of d ∷ []
-hand_then laws v u z n al d a =
-    ap (λ c. hand_among c u.book.pairs) a.goes.adds.same.caller
-    ∙ (ap (hand_among v.book.caller) a.goes.adds.pairs
-    ∙ (laws.through v.book.caller v.book.pairs a.mine ∙ laws.hand_served _ _ _ a.mine _ (hand v.book) a.serves.served))
+pub hand_then : (laws : ZoneLaws) (v u : AtView) (z n al : ℕ) (d : BlockView) → Answers v z n al (Ok d) u → hand u.book ≡ hand v.book ++ block_of d ∷ []
+hand_then laws v u z n al d a = hand_after_call laws v u a.mine a.goes ∙ laws.hand_served _ _ _ a.mine _ (hand v.book) a.serves.served
 
 in_added : (o : Option Held) (h : Held) (hs : List Held) → In h hs → In h (slot_added o hs)
 in_added None h hs i = i
@@ -116,7 +114,7 @@ slot_stays (Some x) (Some y) base (Some h) o st e has =
 -- a block that was handed in still is, once another was made
 pub still_handed : (laws : ZoneLaws) (v u : AtView) (z n al : ℕ) (d b : BlockView) → Answers v z n al (Ok d) u → IsHandedIn v b → IsHandedIn u b
 still_handed laws v u z n al d b a h = record {
-  in_hand = subst (λ hs. has_block hs (block_of b) ≡ true) (sym (hand_then laws v u z n al d a)) (has_front (hand v.book) (block_of d ∷ []) (block_of b) h.in_hand);
+  in_hand = subst (λ hs. has_block hs (block_of b) ≡ true) (sym (hand_then laws v u z n al d a)) (front_there (hand v.book) (block_of d ∷ []) (block_of b) h.in_hand);
   space = h.space ∙ sym a.goes.adds.same.site;
   slot = slot_stays v.nano u.nano b.base b.slot d.slot a.goes.nano a.hand h.slot;
 }
@@ -201,7 +199,7 @@ slot_left (Some z) (Some y) (Some x) base other (Some h) (Some q) st came went h
     (has.0 ∙ sym (ap first_of st.0), subst (λ hs. In h hs) (sym (went ∙ ap (without q.block q.slot) came)) there)
 
 -- A block was served, got the bytes of the old one, and that ended.
-module _ (laws : ZoneLaws) (v u w : AtView) (z n : ℕ) (b c : BlockView) (handed : IsHandedIn v b) (made : Answers v z n 16 (Ok c) u) (freed : Frees u z b (Ok tt) w) (orderly : IsOrderly w.book) (moves : MovesNow v b n) where
+module _ (laws : ZoneLaws) (v u w : AtView) (z n : ℕ) (b c : BlockView) (handed : IsHandedIn v b) (made : Answers v z n 16 (Ok c) u) (freed : Frees u z b (Ok tt) w) (between : IsOrderly u.book) (orderly : IsOrderly w.book) (moves : MovesNow v b n) where
   both : Goes v (made.mine ++ freed.mine) w
   both = goes_on laws v u w made.mine freed.mine made.goes freed.goes
 
@@ -216,6 +214,7 @@ module _ (laws : ZoneLaws) (v u w : AtView) (z n : ℕ) (b c : BlockView) (hande
   with_bytes_of : (ws : List ℕ) → length ws ≡ length c.span.bytes → IsTrue (is_shown_as (kept_in_move n (length ws) (known b)) ws) → MovesOn v z b n (Ok (at_its_place c ws)) w
   with_bytes_of ws same shown = record {
     mine = made.mine ++ freed.mine;
+    few = let e = length-append made.mine freed.mine in let m = made.few in let f = freed.few in omega (arith, e, m, f);
     goes = both;
     t = length v.book.seen;
     before = none_before v w (made.mine ++ freed.mine) both laws orderly;
@@ -227,6 +226,7 @@ module _ (laws : ZoneLaws) (v u w : AtView) (z n : ℕ) (b c : BlockView) (hande
       made.answer.2 ∙ sym (front_makes made.mine freed.mine (laws.blocks_dropped v.book.profile w.book.seen (block_of b) freed.mine drops)),
     );
     slot = slot_left v.nano u.nano w.nano c.base b.base c.slot b.slot freed.goes.nano made.hand freed.hand made.slot handed.slot;
+    elsewhere = begins_elsewhere laws u.book (hand v.book) (block_of b) (block_of c) between (hand_then laws v u z n 16 c made) handed.in_hand;
     bytes = shown;
     hand = freed.hand ∙ ap (hand_without b) made.hand;
     tries = subst (λ y. TriesIf (is_for_nano v z n 16) (units_of n) (counts_of v) c.slot y) (sym freed.counts) made.tries;

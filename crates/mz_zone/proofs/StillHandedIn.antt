@@ -1,7 +1,7 @@
 -- What the tests rest on: a block that got another size, or came back, can be handed in.
-use Rattle.std.proofs.Common.{◌≡◌, ℕ, ◌+◌, ◌==◌, ◌<◌, ◌≤◌, Bool, true, false, not, List, [], ◌∷◌, ◌++◌, Option, None, Some, length, map, refl, ap, sym, subst, ◌∙◌, arith, inl, inr, append-nil, length-append}
-use Rattle.std.specs.Prelude.{◌≢◌, Result, Ok, Err, IfSome, ◌&&◌, ◌||◌, if◌then◌else◌, ◌⊎◌}
-use Rattle.std.specs.Option.{option_to_list}
+use Rattle.std.proofs.Common.{◌≡◌, ℕ, ◌+◌, ◌==◌, ◌≤◌, Bool, true, false, not, List, [], ◌∷◌, ◌++◌, Option, None, Some, length, map, refl, ap, sym, subst, ◌∙◌, arith, inl, inr, append-nil, length-append}
+use Rattle.std.specs.Prelude.{◌≢◌, Result, Ok, Err, IfSome, if◌then◌else◌, ◌⊎◌}
+use Rattle.std.specs.List.{AllByRecursion}
 use Rattle.std.proofs.lemmas.Option.{same_Some}
 use Rattle.std.proofs.lemmas.List.Sums.{fold-append}
 use Rattle.std.proofs.lemmas.Bool.{or_left, or_right, and_parts, eqb-true, false≢true}
@@ -16,16 +16,17 @@ use Rattle.mz_events.specs.Hands.{own, hand_after, hand_through}
 use Rattle.mz_record.specs.Served.{events}
 use Rattle.mz_record.specs.Dropped.{IsDropped, IsNotOfZone}
 use Rattle.mz_record.specs.Resized.{IsResized, same_size, in_place, still_large, IsMoved, moved, not_moved}
-use Rattle.mz_book.specs.Account.{Account, hand}
+use Rattle.mz_book.specs.Account.{hand}
 use Rattle.mz_nano.specs.declared.view.Held.{Held}
-use Rattle.mz_nano.specs.SeatLists.{first_of, hand_of}
+use Rattle.mz_nano.specs.SeatLists.{first_of}
 use Rattle.mz_nano.specs.Lists.{In}
 use Rattle.mz_rack.specs.declared.lot.Null.{Null}
 use Rattle.mz_zone.specs.declared.fault.NotLiveBlock.{NotLiveBlock}
 use Rattle.mz_zone.specs.declared.fault.ReallocFault.{ReallocFault}
 use Rattle.mz_zone.specs.declared.fault.ReallocFault.TheVariants as fault
 use Rattle.mz_zone.specs.Blocks.{BlockView, block_of}
-use Rattle.mz_zone.specs.Calling.{AtView, Seated, Goes, IsHandedIn, HasSlot, StaysSeated, hand_in, hand_at}
+use Rattle.mz_zone.specs.Batches.{AreHandedIn}
+use Rattle.mz_zone.specs.Calling.{AtView, Seated, Goes, IsHandedIn, HasSlot, StaysSeated, hand_in}
 use Rattle.mz_zone.specs.Freeing.{Frees}
 use Rattle.mz_zone.specs.Moving.{Stays, MovesOn, Reallocs}
 use Rattle.mz_zone.specs.Tested.{block_in}
@@ -207,3 +208,12 @@ realloc_goes v w z n (Some b) (Ok d) r = by_way r.1
     by_way (inr m) = (m.mine, m.goes)
 realloc_goes v w z n (Some b) (Err (fault.NotLive e)) r = (r.mine, r.goes)
 realloc_goes v w z n (Some b) (Err (fault.Null c e)) r = (r.2.mine, r.2.goes)
+
+-- blocks that are freed by one call
+
+all_still : (v w : AtView) (bs : List BlockView) → ((b : BlockView) → IsHandedIn v b → IsHandedIn w b) → AllByRecursion (IsHandedIn v) bs → AllByRecursion (IsHandedIn w) bs
+all_still v w [] still each = tt
+all_still v w (b ∷ bs) still each = (still b each.0, all_still v w bs still each.1)
+
+pub all_with : (v w : AtView) (bs : List BlockView) → ((b : BlockView) → IsHandedIn v b → IsHandedIn w b) → AreHandedIn v bs → AreHandedIn w bs
+all_with v w bs still handed = record { each = all_still v w bs still handed.each; others = handed.others }

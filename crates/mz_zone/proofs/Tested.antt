@@ -1,6 +1,6 @@
 -- What the tests rest on: after a step another one can be done, and a block that was made can be handed in.
-use Rattle.std.proofs.Common.{◌≡◌, ℕ, ◌+◌, ◌*◌, ◌<◌, ◌≤◌, true, List, [], ◌∷◌, ◌++◌, Option, None, Some, length, refl, ap, sym, subst, ◌∙◌, arith, append-nil}
-use Rattle.std.specs.Prelude.{Result, Ok, Err, IfSome, replicate}
+use Rattle.std.proofs.Common.{◌≡◌, ℕ, ◌+◌, ◌-◌, ◌*◌, ◌<◌, ◌≤◌, true, List, [], ◌∷◌, ◌++◌, Option, None, Some, length, refl, ap, sym, subst, ◌∙◌, arith}
+use Rattle.std.specs.Prelude.{Ok, Err, IfSome, replicate}
 use Rattle.std.specs.Borrow.{Bor, MutBor}
 use Rattle.std.proofs.lemmas.List.{length-replicate}
 use Rattle.std.proofs.lemmas.Bool.{or_left, or_right, eq-eqb}
@@ -11,13 +11,13 @@ use Rattle.mz_base.specs.Site.{Site}
 use Rattle.mz_base.specs.Space.{Block, block_at, same_block}
 use Rattle.mz_base.specs.Lists.{has_block}
 use Rattle.mz_events.specs.declared.entry.Entry.{Entry}
-use Rattle.mz_events.specs.Hands.{hand_through}
+use Rattle.mz_events.specs.Hands.{own, hand_through}
 use Rattle.mz_events.specs.Places.{nano_start}
 use Rattle.mz_events.specs.State.{is_open, opening}
 use Rattle.mz_events.specs.History.{after_all}
 use Rattle.mz_book.specs.Account.{Account, hand}
 use Rattle.mz_book.specs.Pairs.{hand_among}
-use Rattle.mz_book.specs.Plain.{Reserves, opening_account}
+use Rattle.mz_book.specs.Plain.{Reserves, ActsAs, opening_account}
 use Rattle.mz_nano.specs.declared.nano.Nano.{Nano}
 use Rattle.mz_nano.specs.declared.seat.NanoSeat.{NanoSeat}
 use Rattle.mz_nano.specs.SeatLists.{AllNew, SitsAt, first_of, blocks_of, space_of, hand_of}
@@ -26,7 +26,7 @@ use Rattle.mz_nano.specs.Lists.{In}
 use Rattle.mz_rack.specs.declared.lot.Null.{Null}
 use Rattle.mz_rack.specs.Serving.{CanServe}
 use Rattle.mz_zone.specs.declared.zone.Zone.{Zone}
-use Rattle.mz_zone.specs.Blocks.{BlockView, of_slot, block_of, with_block_bytes, at_its_place}
+use Rattle.mz_zone.specs.Blocks.{BlockView, of_slot, block_of, with_block_bytes}
 use Rattle.mz_zone.specs.Calling.{AtView, Seated, CanCall, Goes, IsHandedIn, IsSeatedAt, seated, with_seat}
 use Rattle.mz_zone.specs.Making.{IsPutBack, held_of}
 use Rattle.mz_zone.specs.Answering.{Answers, Callocs, Memaligns}
@@ -93,6 +93,13 @@ can_at v zone n ready = ready.each zone.zone (zone_in zone)
 
 pub ready_then : (v u : AtView) (p : Profile) (n : ℕ) (mine : List Entry) → IsReady v p n → Goes v mine u → IsReady u p 0
 ready_then v u p n mine ready goes = record { each = λ z below. can_then v u p z n 0 mine (ready.each z below) goes (omega arith) }
+
+-- also one with room, where there was room for two
+pub ready_for_more : (v u : AtView) (p : Profile) (mine : List Entry) → IsReady v p 80 → Goes v mine u → length mine ≤ 36 → IsReady u p 40
+ready_for_more v u p mine ready goes few = record {
+  each = λ z below. can_then v u p z 80 40 mine (ready.each z below) goes
+      (let e : u.book.spare ≡ v.book.spare - length mine = goes.adds.spare in let room : 80 ≤ v.book.spare = (ready.each z below).serve.room in omega (arith, e, room, few));
+}
 
 pub same_itself : (b : Block) → same_block b b ≡ true
 same_itself b = rw (eq-eqb b.first b.first refl, eq-eqb b.size b.size refl) refl
@@ -209,3 +216,42 @@ module _ (s : Account) (refs : Option (Bor Nano × MutBor NanoSeat)) (both : Bor
         let can : CanCall (with_seat s both.0.now both.1.now) p z 0 = subst (λ r. CanCall (record { book = s; nano = seated r }) p z 0) is (ready.each z below) in
         record { serve = can.serve; nano = record { seat = put.same.sits; first = can.nano.first; blocks = can.nano.blocks; space = can.nano.space } };
   }
+
+-- callers and their seats
+
+pub ready_as : (v : AtView) (t : Account) (p : Profile) (c : ℕ) → IsReady v p 0 → ActsAs v.book c t → IsReady (after v t) p 0
+ready_as v t p c ready acts = record { each = λ z below. as_caller z (ready.each z below) }
+  where
+    by_seat : (m : Option Seated) → IsSeatedAt v.book m → IsSeatedAt (record v.book { caller = c; noted = own c v.book.seen }) m
+    by_seat None i = tt
+    by_seat (Some x) i = record { seat = i.seat; first = i.first; blocks = i.blocks; space = i.space }
+
+    as_caller : (z : ℕ) → CanCall v p z 0 → CanCall (after v t) p z 0
+    as_caller z can = record {
+      serve = subst (λ u. CanServe u p z 0) (sym acts.after) (record {
+        profile = can.serve.profile;
+        zone_open = can.serve.zone_open;
+        nothing_held = record { keepers = can.serve.nothing_held.keepers; lights = can.serve.nothing_held.lights };
+        room = omega arith;
+      });
+      nano = subst (λ u. IsSeatedAt u v.nano) (sym acts.after) (by_seat v.nano can.nano);
+    }
+
+pub other_seat : (t : Account) (nano : Nano) (a b : NanoSeat) (p : Profile) (n : ℕ) → IsReady (with_seat t nano a) p n → SitsAt nano b → IsReady (with_seat t nano b) p n
+other_seat t nano a b p n ready sits = record {
+  each = λ z below.
+      let can = ready.each z below in
+      record { serve = can.serve; nano = record { seat = sits; first = can.nano.first; blocks = can.nano.blocks; space = can.nano.space } };
+}
+
+pub still_sits : (t : Account) (nano : Nano) (a : NanoSeat) (zone : Zone) → IsReady (with_seat t nano a) zone.profile 0 → SitsAt nano a
+still_sits t nano a zone ready = (can_at (with_seat t nano a) zone 0 ready).nano.seat
+
+pub others_new :
+    (nano : Nano) (xs ys : List NanoSeat) (x : NanoSeat) → xs ≡ ys ++ x ∷ [] → AllNew nano.table.shared.table_id nano.table.shared.key 0 xs
+    → AllNew nano.table.shared.table_id nano.table.shared.key 0 ys
+others_new nano xs ys x e news = of_front ys 0 (subst (λ ss. AllNew nano.table.shared.table_id nano.table.shared.key 0 ss) e news)
+  where
+    of_front : (ss : List NanoSeat) (k : ℕ) → AllNew nano.table.shared.table_id nano.table.shared.key k (ss ++ x ∷ []) → AllNew nano.table.shared.table_id nano.table.shared.key k ss
+    of_front [] k a = tt
+    of_front (s ∷ ss) k a = (a.0, of_front ss (k + 1) a.1)

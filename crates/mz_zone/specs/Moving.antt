@@ -1,6 +1,6 @@
 -- How a block gets another size. That it stays where it is if it can, and else is copied, is after libmalloc; when it moves is this
 -- project's own.
-use Rattle.std.specs.Prelude.{◌≡◌, ℕ, ◌≤◌, List, length, map, Option, None, Some, Result, Ok, Err, IsTrue, ◌⊎◌, Contains}
+use Rattle.std.specs.Prelude.{◌≡◌, ◌≢◌, ℕ, ◌≤◌, List, length, map, Option, None, Some, Result, Ok, Err, IsTrue, ◌⊎◌, Contains}
 use Rattle.mz_events.specs.declared.entry.Entry.{Entry}
 use Rattle.mz_record.specs.Resized.{IsResized, IsMoved}
 use Rattle.mz_record.specs.Bytes.{Bytes, kept_in_place, kept_in_move, is_shown_as}
@@ -38,6 +38,11 @@ abbrev pub CopiesBytes : BlockView → ℕ → Result BlockView Null → Type 0
 CopiesBytes b n (Ok d) = IsTrue (is_shown_as (kept_in_move n (length d.span.bytes) (known b)) d.span.bytes)
 CopiesBytes b n (Err e) = Unit {0}
 
+-- the new block begins elsewhere
+abbrev pub IsElsewhere : BlockView → Result BlockView Null → Type 0
+IsElsewhere b (Ok d) = b.span.first ≢ d.span.first
+IsElsewhere b (Err e) = Unit {0}
+
 -- the hand has the slot of a new block of nano, and not that of the old one; where no block came it is as before
 abbrev pub hand_moved : BlockView → Result BlockView Null → List Held → List Held
 hand_moved b (Ok d) hand = hand_without b (hand_with d hand)
@@ -46,12 +51,14 @@ hand_moved b (Err e) hand = hand
 -- Another block is served and the block dropped, or none is and the block stays. That it had to move was so after t entries.
 pub record MovesOn (v : AtView) (z : ℕ) (b : BlockView) (n : ℕ) (got : Result BlockView Null) (w : AtView) : Type 0 where
   pub mine : List Entry
+  pub few : length mine ≤ 39
   pub goes : Goes v mine w
   pub t : ℕ
   pub before : IsBefore v mine t
   pub moved : IsMoved v.book.profile w.book.seen t t v.book.caller z (block_of b) n mine (block_got got)
   pub answer : IsAnswer z v.book.site mine got
   pub slot : HasGotSlot w got
+  pub elsewhere : IsElsewhere b got
   pub bytes : CopiesBytes b n got
   pub hand : hand_at w ≡ hand_moved b got (hand_at v)
   pub tries : Tries v z n 16 (slot_got got) w

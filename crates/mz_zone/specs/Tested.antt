@@ -1,7 +1,9 @@
 -- What the tests keep from step to step. This project's own.
-use Rattle.std.specs.Prelude.{◌≡◌, ℕ, ◌<◌, Option, Some, IfSome}
+use Rattle.std.specs.Prelude.{◌≡◌, ℕ, ◌<◌, ◌≤◌, [], ◌∷◌, Option, Some, IfSome, IsTrue}
+use Rattle.std.specs.List.{range_with_len}
 use Rattle.mz_base.specs.declared.profile.Profile.{Profile}
-use Rattle.mz_book.specs.Account.{Account}
+use Rattle.mz_events.specs.declared.event.Event.TheVariants.{Open}
+use Rattle.mz_book.specs.Account.{Account, entry_at}
 use Rattle.mz_zone.specs.declared.fault.ReallocFault.{ReallocFault}
 use Rattle.mz_zone.specs.declared.fault.ReallocFault.TheVariants.{NotLive, Null}
 use Rattle.mz_zone.specs.Blocks.{BlockView}
@@ -28,3 +30,21 @@ block_in (Null b e) = b
 -- what is known of nano's classes may differ, and nothing else
 pub record IsOpening (s t : Account) : Type 0 where
   pub after : t ≡ record s { settled = t.settled; founds = t.founds; found = t.found }
+
+-- Zone 1 of two zones opens in a book without entries, while its keepers are held: the numbers 5 to 9.
+
+-- nothing was noted yet, and the first n keepers of zone 1 are held
+pub record HoldsFirst (s : Account) (n : ℕ) : Type 0 where
+  pub profile : s.profile ≡ tested 130 2 2
+  pub between : IsTrue s.between
+  pub seen : s.seen ≡ []
+  pub held : s.held ≡ range_with_len 5 n
+  pub room : 1 ≤ s.spare
+
+-- zone 1 opened, and the same is held
+pub record HasOpened (s t : Account) : Type 0 where
+  pub profile : t.profile ≡ s.profile
+  pub site : t.site ≡ s.site
+  pub seen : t.seen ≡ entry_at 0 s.caller (Open 1) ∷ []
+  pub held : t.held ≡ s.held
+  pub lights : t.lights ≡ s.lights

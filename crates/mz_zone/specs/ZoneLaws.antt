@@ -21,12 +21,13 @@ use Rattle.mz_events.specs.State.{State, opening, value_at, is_open}
 use Rattle.mz_events.specs.Effect.{touches, after, value_after}
 use Rattle.mz_events.specs.History.{AreLawful, after_all}
 use Rattle.mz_events.specs.Holding.{changes_zones}
+use Rattle.mz_events.specs.Separation.{IsSeparate, IsAscending}
 use Rattle.mz_record.specs.Bytes.{Bytes, fresh, kept_in_place, is_shown_as}
 use Rattle.mz_record.specs.Moments.{state_at}
 use Rattle.mz_record.specs.Served.{Request, IsServed, Serves, IsUndisturbed, is_dry, blocks_made}
 use Rattle.mz_record.specs.Dropped.{IsDropped}
 use Rattle.mz_book.specs.declared.light.Light.{Light}
-use Rattle.mz_book.specs.Account.{Account, IsOrderly, entry_at, hand, owns_slot}
+use Rattle.mz_book.specs.Account.{Account, IsOrderly, entry_at, hand, known, owns_slot}
 use Rattle.mz_book.specs.Calls.{CanMakeSlot, CanEndSlot, CanNote, Notes}
 use Rattle.mz_book.specs.Growth.{Adds, GrowsHolding, pairs_through}
 use Rattle.mz_book.specs.Lights.{slot_size, slots_of, slot_address, slot_number, page_of_block, light_at, same_light, has_light, add_light, drop_light}
@@ -57,3 +58,6 @@ pub record ZoneLaws : Type 0 where
   pub blocks_served : (p : Profile) (h : List Entry) (q : Request) (es : List Entry) (got : Option Block) → IsServed p h q es got → blocks_made es ≡ option_to_list got
   pub blocks_dropped : (p : Profile) (h : List Entry) (b : Block) (es : List Entry) → IsDropped p h b es → blocks_made es ≡ []
   pub hand_dropped : (p : Profile) (h : List Entry) (b : Block) (es : List Entry) (hand : List Block) → IsDropped p h b es → hand_through hand es ≡ drop_block b hand
+  pub separate : (p : Profile) (es : List Entry) → AreLawful p opening es → IsSeparate p (after_all p opening es)
+  pub ascending : (p : Profile) (es : List Entry) → AreLawful p opening es → IsAscending p (after_all p opening es)
+  pub somewhere : (s : Account) (b : Block) → IsOrderly s → IsTrue (has_block (hand s) b) → (j : Spot) × IsTrue (has_block (known s j).kept.live b)

@@ -1,5 +1,6 @@
 //! A block with its bytes.
 ghost use Rattle.std.specs.Prelude.{◌≡◌, length};
+ghost use Rattle.std.specs.Option.{option_map};
 ghost use Rattle.std.specs.Borrow.{Lends, Array, sem, u8};
 ghost use Rattle.mz_nano.specs.SlotViews.{IsPlaced};
 ghost use Rattle.mz_zone.specs.Blocks.{of_lot, of_slot, with_block_bytes, IsAtItsSlot};
@@ -83,6 +84,16 @@ impl Block {
         self.bytes().len() as u64
     }
 
+    /// Where it is a block of nano, the number of its nano block and of its slot there.
+    pub fn slot(&self) -> Option<(u64, u64)>
+        ensures { result ≡ option_map (λ h. (h.block, h.slot)) self.now.slot }
+    {
+        match &self.inner {
+            Inner::Lot(_lot) => None,
+            Inner::Slot(slot) => Some((slot.block(), slot.slot())),
+        }
+    }
+
     /// Its bytes.
     pub fn bytes(&self) -> &[u8]
         ensures { result.now ≡ self.now.span.bytes }
@@ -109,6 +120,7 @@ impl Block {
     pub fn keeps_its_place(&self)
         ensures { IsAtItsSlot self.now }
     {
+        // The struct's invariant is known of a value whose field is named, and an empty body names none.
         let _ = &self.inner;
     }
 }

@@ -10,7 +10,7 @@ ghost use Rattle.mz_zone.specs.ZoneLaws.{ZoneLaws};
 
 use mz_book::Book;
 use mz_book::laws::{growth, hands, slots};
-use mz_events::laws::{entries, events, holding};
+use mz_events::laws::{entries, events, holding, separation};
 use mz_rack::Keeper;
 
 /// They hold, all together.
@@ -21,6 +21,9 @@ pub(crate) fn of_zones()
     slots::slots_in_the_hand();
     slots::lights_that_are_held();
     hands::hands_after_an_event();
+    hands::what_is_in_the_hand();
+    separation::separation();
+    separation::live_blocks_are_ascending();
     holding::what_an_event_leaves();
     entries::lawful_entries_split();
     entries::tickets_are_indices();

@@ -1,5 +1,5 @@
 //! The call that gives a block another size.
-ghost use Rattle.std.specs.Prelude.{◌≡◌, ◌<◌, ◌≤◌, ◌++◌, length, drop, IfSome};
+ghost use Rattle.std.specs.Prelude.{◌≡◌, ◌<◌, ◌≤◌, ◌++◌, length, drop, IfOk, IfSome};
 ghost use Rattle.mz_zone.specs.Calling.{seen, CanCall, IsHandedIn, KeepsReferences};
 ghost use Rattle.mz_zone.specs.Moving.{Reallocs};
 ghost use Rattle.mz_zone.specs.Resizing.{StaysIf, MovesNow, MovesTo, CopiesInto};
@@ -27,6 +27,7 @@ impl Zone {
         requires block { IfSome b (IsHandedIn (seen B.account at.old)) }
         ensures references { KeepsReferences at.old at.new }
         ensures reallocs { Reallocs (seen B.account at.old) self.now.zone b n result (seen B.account at.new) }
+        ensures handed { IfOk result (IsHandedIn (seen B.account at.new)) }
     {
         of_zones();
         let Some(mut b) = b else {

@@ -1,15 +1,16 @@
-ghost use Rattle.std.specs.Prelude.{◌≡◌, ℕ, ◌<◌, ◌≤◌, List, Some, length, replicate, IfOk, IfSome};
+ghost use Rattle.std.specs.Prelude.{◌≡◌, ◌<◌, ◌≤◌, List, [], ◌∷◌, Some, vec_len, length, replicate, IfOk, IfSome, IsTrue};
 ghost use Rattle.mz_base.specs.Limits.{IsWithinLimits, IsFrom};
 ghost use Rattle.mz_base.specs.Space.{block_at, same_block};
 ghost use Rattle.mz_events.specs.declared.entry.Entry.{Entry as entry};
 ghost use Rattle.mz_zone.specs.Blocks.{BlockView, block_of, of_slot, with_block_bytes};
+ghost use Rattle.mz_zone.specs.Batches.{AreOther, AreHandedIn};
 ghost use Rattle.mz_zone.specs.Calling.{seen, AtView, CanCall, Goes, IsHandedIn};
 ghost use Rattle.mz_zone.specs.Tested.{tested, IsReady, IsLeft, IsOpening, block_in};
 
 use crate::block::Inner;
 use crate::laws::of_zones;
 use crate::nano::put_back;
-use crate::{At, Block, ReallocFault, SizeFault, Zone};
+use crate::{At, Block, NotLiveBlock, ReallocFault, SizeFault, Zone};
 use mz_base::Profile;
 use mz_book::{Book, PlainBook};
 use mz_events::{Entry, Event, Place};
@@ -25,6 +26,7 @@ mod calls;
 mod moves;
 mod nano;
 mod refusals;
+mod zones;
 
 const TINY: Place = Place::Tiny { zone: 0, mag: 0 };
 
@@ -57,6 +59,8 @@ enum Step {
     Realloc(u64),
     Free,
     FreeOfSize(u64),
+    // Two blocks of so many bytes are made, and freed by one call with the one at hand between them. None is at hand then.
+    FreeAmong(u64, u64),
     // The slot of the block at hand is pushed, and the block stays live.
     Push,
 }
@@ -416,6 +420,131 @@ fn free_of_size<R: Wait>(
     }
 }
 
+// Makes a block beside others.
+fn make_beside<R: Wait>(
+    rt: &R,
+    zone: &Zone,
+    at: &mut At<PlainBook<Keeper>>,
+    n: u64,
+) -> Result<Option<Block>, AllocError>
+    requires { IsReady (seen ⟦<PlainBook<Keeper> as Book<Keeper>>⟧.account at.old) zone.now.profile 0 }
+    ensures ready { IfOk result (λ r. IsReady (seen ⟦<PlainBook<Keeper> as Book<Keeper>>⟧.account at.new) zone.now.profile 0) }
+    ensures made { IfOk result (λ r. IfSome r (IsHandedIn (seen ⟦<PlainBook<Keeper> as Book<Keeper>>⟧.account at.new))) }
+    ensures held { IfOk result (λ r. IfSome r (λ d. (b : BlockView) → IsHandedIn (seen ⟦<PlainBook<Keeper> as Book<Keeper>>⟧.account at.old) b → IsHandedIn (seen ⟦<PlainBook<Keeper> as Book<Keeper>>⟧.account at.new) b)) }
+{
+    of_zones();
+    make_room(zone, at, 40)?;
+    match zone.malloc(rt, at, n) {
+        Ok(b) => Ok(Some(b)),
+        Err(_null) => Ok(None),
+    }
+}
+
+// Whether these blocks begin at three addresses.
+fn begin_apart(a: &Block, b: &Block, c: &Block) -> bool
+    ensures { IsTrue result → AreOther (a.now ∷ b.now ∷ c.now ∷ []) }
+{
+    let (first, second, third) = (a.first(), b.first(), c.first());
+    first != second && first != third && second != third
+}
+
+// Makes two blocks, of which one is to be freed before the one at hand and the other after it.
+fn gather<R: Wait>(
+    rt: &R,
+    alloc: Global,
+    zone: &Zone,
+    at: &mut At<PlainBook<Keeper>>,
+    b: Block,
+    n: u64,
+    m: u64,
+) -> Result<Vec<Block>, AllocError>
+    requires { IsLeft (seen ⟦<PlainBook<Keeper> as Book<Keeper>>⟧.account at.old) zone.now.profile (Some b) }
+    ensures ready { IfOk result (λ all. IsReady (seen ⟦<PlainBook<Keeper> as Book<Keeper>>⟧.account at.new) zone.now.profile 0) }
+    ensures blocks { IfOk result (λ all. AreHandedIn (seen ⟦<PlainBook<Keeper> as Book<Keeper>>⟧.account at.new) all.items) }
+    ensures few { IfOk result (λ all. vec_len all ≤ 3) }
+{
+    let Some(a) = make_beside(rt, zone, at, n)? else {
+        return Ok(Vec::new(alloc));
+    };
+    let Some(c) = make_beside(rt, zone, at, m)? else {
+        return Ok(Vec::new(alloc));
+    };
+    if !begin_apart(&a, &b, &c) {
+        return Ok(Vec::new(alloc));
+    }
+    Ok(vec![in alloc; a, b, c]?)
+}
+
+// Frees the block at hand between two others by one call. Where it comes back as it was, the last one is left.
+fn free_among<R: Wait>(
+    rt: &R,
+    alloc: Global,
+    zone: &Zone,
+    at: &mut At<PlainBook<Keeper>>,
+    held: Option<Block>,
+    n: u64,
+    m: u64,
+) -> Result<(Option<Block>, Answer), AllocError>
+    requires { IsLeft (seen ⟦<PlainBook<Keeper> as Book<Keeper>>⟧.account at.old) zone.now.profile held }
+    ensures { IfOk result (λ r. IsLeft (seen ⟦<PlainBook<Keeper> as Book<Keeper>>⟧.account at.new) zone.now.profile r.0) }
+{
+    let Some(b) = held else {
+        return Ok((None, Answer::NothingAtHand));
+    };
+    let was = mark_of(&b);
+    let all = gather(rt, alloc, zone, at, b, n, m)?;
+    Ok((None, free_all(rt, zone, at, all, was)?))
+}
+
+// Frees three blocks by one call.
+fn free_all<R: Wait>(
+    rt: &R,
+    zone: &Zone,
+    at: &mut At<PlainBook<Keeper>>,
+    all: Vec<Block>,
+    second: Mark,
+) -> Result<Answer, AllocError>
+    requires ready { IsReady (seen ⟦<PlainBook<Keeper> as Book<Keeper>>⟧.account at.old) zone.now.profile 0 }
+    requires blocks { AreHandedIn (seen ⟦<PlainBook<Keeper> as Book<Keeper>>⟧.account at.old) all.items }
+    requires few { vec_len all ≤ 3 }
+    ensures { IfOk result (λ r. IsReady (seen ⟦<PlainBook<Keeper> as Book<Keeper>>⟧.account at.new) zone.now.profile 0) }
+{
+    let Some(third) = mark_of_third(&all) else {
+        return Ok(Answer::NothingAtHand);
+    };
+    make_room(zone, at, 120)?;
+    let mut left = all;
+    match zone.batch_free(rt, at, &mut left) {
+        Ok(()) => Ok(all_freed(&left)),
+        Err(fault) => Ok(stopped(fault, second, &left, third)),
+    }
+}
+
+fn mark_of_third(all: &[Block]) -> Option<Mark> {
+    match all {
+        [_, _, block] => Some(mark_of(block)),
+        _ => None,
+    }
+}
+
+// Of a call that freed all blocks none is left.
+fn all_freed(left: &[Block]) -> Answer {
+    if left.is_empty() {
+        Answer::Freed
+    } else {
+        Answer::Spoiled
+    }
+}
+
+// A call that frees three blocks stopped at the second, which came back as it was. The third is left.
+fn stopped(fault: NotLiveBlock, second: Mark, left: &[Block], third: Mark) -> Answer {
+    let number = fault.number();
+    match left {
+        [block] if is_same(block, third) => come_back(fault.block, second, number).1,
+        _ => Answer::Spoiled,
+    }
+}
+
 // Pushes the slot of the block at hand, which stays live.
 fn push<R: Wait>(
     rt: &R,
@@ -468,6 +597,7 @@ fn go<R: Wait>(
         Step::Realloc(n) => realloc(rt, zone, at, held, n),
         Step::Free => free(rt, zone, at, held),
         Step::FreeOfSize(n) => free_of_size(rt, zone, at, held, n),
+        Step::FreeAmong(n, m) => free_among(rt, alloc, zone, at, held, n, m),
         Step::Push => push(rt, zone, at, held),
     }
 }

@@ -202,6 +202,60 @@ fn batches_of_nano(rt: HostRuntime) -> Result<(), Fail> {
     Ok(())
 }
 
+// They end from the first on.
+#[test]
+fn blocks_freed_by_one_call(rt: HostRuntime) -> Result<(), Fail> {
+    let steps = [
+        (Step::Make(Request::Malloc(48)), Answer::Block(0, 48)),
+        (Step::FreeAmong(16, 300), Answer::Freed),
+        (Step::Make(Request::Malloc(300)), Answer::Block(64, 304)),
+    ];
+    let events = [
+        full(TINY, 48),
+        full(TINY_DEPOT, 48),
+        take(TINY, 0, 64),
+        new(TINY, 0, 48),
+        new(TINY, 48, 16),
+        new(TINY, 64, 304),
+        end(TINY, 48, 16),
+        end(TINY, 0, 48),
+        end(TINY, 64, 304),
+        new(TINY, 64, 304),
+    ];
+    without_nano(&rt, rt.alloc(), 64, &steps, &events)
+}
+
+// Nano's pages are 64 and 65. Each slot is pushed again, the last one on top.
+#[test]
+fn blocks_of_nano_freed_by_one_call(rt: HostRuntime) -> Result<(), Fail> {
+    let steps = [
+        (
+            Step::Make(Request::Malloc(60)),
+            Answer::Block(1_048_576, 64),
+        ),
+        (Step::FreeAmong(300, 60), Answer::Freed),
+        (
+            Step::Make(Request::Malloc(60)),
+            Answer::Block(1_048_640, 64),
+        ),
+    ];
+    let events = [
+        new(Place::Nano, 1_048_576, 64),
+        full(TINY, 304),
+        full(TINY_DEPOT, 304),
+        take(TINY, 0, 64),
+        new(TINY, 0, 304),
+        new(Place::Nano, 1_048_640, 64),
+        end(TINY, 0, 304),
+        end(Place::Nano, 1_048_576, 64),
+        end(Place::Nano, 1_048_640, 64),
+        new(Place::Nano, 1_048_640, 64),
+    ];
+    let counts = with_nano(&rt, rt.alloc(), 66, None, &steps, &events)?;
+    assert_eq!(rt; counts, (3, 0));
+    Ok(())
+}
+
 #[test]
 fn boundaries(rt: HostRuntime) -> Result<(), Fail> {
     let zone = Zone::new(rt.alloc(), &profile(64, 0), 0)?;

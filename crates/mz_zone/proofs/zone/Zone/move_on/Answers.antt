@@ -28,7 +28,7 @@ pub returns-clause-moves : goal.returns-clause-moves
 returns-clause-moves g c =
     moved_on c.of_zones.ensures (seen g.B.Book.account c.args.at.now) (seen g.B.Book.account c.malloc.new.at) (seen g.B.Book.account c.take_back.new.at)
     c.args.self.now.zone c.args.n c.args.b c.in-Ok.new c.requires.block c.in-Ok.ensures.answers c.in-Ok-take_back.ensures.frees
-    c.of_book-in-Ok-take_back.ensures c.requires.moves c.copy.new.to
+    c.of_book-2.ensures c.of_book-in-Ok-take_back.ensures c.requires.moves c.copy.new.to
     (served_holds c.of_zones.ensures _ _ _ _ _ c.in-Ok.ensures.answers.serves.served) c.copy.ensures
 
 pub unreachable-requires : goal.unreachable-requires

@@ -1,7 +1,7 @@
--- The live blocks of a space of one zone, none of them one of nano's, sorted by address, are its listing.
+-- The live blocks of a space of one zone, sorted by address, are its listing.
 use Rattle.std.proofs.Common.{◌≡◌, ℕ, suc, ◌+◌, ◌*◌, ◌<◌, ◌≤◌, ◌==◌, Bool, true, false, cond, List, [], ◌∷◌, map, filter, length, slice_index_or, arith, refl, ap, sym, subst, ◌∙◌, inl, inr}
-use Rattle.std.specs.Prelude.{◌&&◌, ◌||◌, ◌⊎◌, ◌%◌, nat_le, nat_lt, sum_by, find, None, Some}
-use Rattle.std.specs.List.{All, Contains, list_any}
+use Rattle.std.specs.Prelude.{◌&&◌, ◌⊎◌, ◌%◌, nat_le, nat_lt, sum_by, find, None, Some}
+use Rattle.std.specs.List.{All, Contains}
 use Rattle.std.specs.List.Sorted.{IsPermutation, IsNonDecreasingBy}
 use Rattle.std.proofs.lemmas.Bool.{cases_Bool, and_parts, and_from, false≢true}
 use Rattle.std.proofs.lemmas.Bool.Decides.{nat_tests}
@@ -9,7 +9,7 @@ use Rattle.std.proofs.lemmas.List.Sums.{sum_by-cons}
 use Rattle.std.proofs.lemmas.List.Elements.{All-head, All-tail, All-cons, Contains-append_cases, Contains-push_cases}
 use Rattle.std.proofs.lemmas.List.Sorted.{IsPermutation-map, All-permutation, sum_by-IsPermutation}
 use Rattle.mz_base.specs.declared.profile.Profile.{Profile}
-use Rattle.mz_base.specs.Space.{Block, block_at, block_end, same_block}
+use Rattle.mz_base.specs.Space.{Block, block_at, block_end, run_end, same_block}
 use Rattle.mz_base.specs.Lists.{insert_by, has_block}
 use Rattle.mz_base.specs.Sizes.{is_size, route_of}
 use Rattle.mz_base.specs.declared.range.Range.{Range}
@@ -18,20 +18,18 @@ use Rattle.mz_base.specs.declared.range.TheConstants.{PAGE}
 use Rattle.mz_events.specs.declared.entry.Entry.{Entry}
 use Rattle.mz_events.specs.declared.place.Place.{Place}
 use Rattle.mz_events.specs.declared.place.Place.TheVariants.{Pages, Tiny, TinyDepot, Small, SmallDepot, Large, Nano}
-use Rattle.mz_events.specs.Places.{is_nano, is_size_of, is_length_of, Spot, keeper_at, nano_page, place_of, zone_of}
+use Rattle.mz_events.specs.Places.{is_nano, is_size_of, is_length_of, nano_start, Spot, keeper_at, nano_page, place_of, zone_of}
 use Rattle.mz_events.specs.State.{State, opening, kept_at, live_blocks}
 use Rattle.mz_events.specs.Changes.{one_for}
 use Rattle.mz_events.specs.History.{AreLawful, after_all}
 use Rattle.mz_events.specs.Separation.{InOrder, by_address, LiesAtHome}
 use Rattle.mz_record.specs.Listing.{range_of}
 use Rattle.mz_record.specs.Zones.{zone_at}
-use Rattle.mz_book.specs.Account.{is_live}
 use Rattle.mz_book.specs.Living.{times}
 use Rattle.mz_trace.specs.declared.tail.Listed.{Listed}
 use Rattle.mz_fit.specs.Standing.{Standing, default_zone, zone_name}
 use Rattle.mz_fit.specs.Tail.{listed, listing_of}
-use Rattle.mz_session.specs.Counts.{AreBelowNano}
-use Rattle.mz_session.specs.Listing.{listed_first}
+use Rattle.mz_session.specs.Listing.{AreLive, range_in, listed_in}
 use Rattle.mz_session.specs.ListingLaws.{ListingLaws}
 use Rattle.mz_session.proofs.CountLemmas.{or-left, or-right}
 
@@ -174,26 +172,31 @@ same_map : (f g : Spot × Block → Listed) (xs : List (Spot × Block)) → Each
 same_map f g [] all = refl
 same_map f g (x ∷ xs) all = ap (λ z. z ∷ map f xs) all.0 ∙ ap (λ zs. g x ∷ zs) (same_map f g xs all.1)
 
-maps_in_turn : (xs : List (Spot × Block)) → map (λ x. listed_first x.1) xs ≡ map listed_first (map (λ x. x.1) xs)
-maps_in_turn [] = refl
-maps_in_turn (x ∷ xs) = ap (λ zs. listed_first x.1 ∷ zs) (maps_in_turn xs)
+module _ (p : Profile) where
+  -- as a block of zone 0 is listed
+  abbrev listed_first : Block → Listed
+  listed_first b = listed_in p default_zone b
 
--- what is listed can be read back
+  maps_in_turn : (xs : List (Spot × Block)) → map (λ x. listed_first x.1) xs ≡ map listed_first (map (λ x. x.1) xs)
+  maps_in_turn [] = refl
+  maps_in_turn (x ∷ xs) = ap (λ zs. listed_first x.1 ∷ zs) (maps_in_turn xs)
 
-map_back : (bs : List Block) → map block_in (map listed_first bs) ≡ bs
-map_back [] = refl
-map_back (b ∷ bs) = ap (λ zs. b ∷ zs) (map_back bs)
+  -- what is listed can be read back
 
-abbrev IsListed : Listed → Type 0
-IsListed y = listed_first (block_in y) ≡ y
+  map_back : (bs : List Block) → map block_in (map listed_first bs) ≡ bs
+  map_back [] = refl
+  map_back (b ∷ bs) = ap (λ zs. b ∷ zs) (map_back bs)
 
-are_listed : (bs : List Block) → All IsListed (map listed_first bs)
-are_listed [] = λ k d low. absurd (omega (arith, low))
-are_listed (b ∷ bs) = All-cons IsListed (listed_first b) (map listed_first bs) refl (are_listed bs)
+  abbrev IsListed : Listed → Type 0
+  IsListed y = listed_first (block_in y) ≡ y
 
-map_forth : (ys : List Listed) → All IsListed ys → map listed_first (map block_in ys) ≡ ys
-map_forth [] all = refl
-map_forth (y ∷ ys) all = ap (λ z. z ∷ map listed_first (map block_in ys)) (All-head IsListed y ys all) ∙ ap (λ zs. y ∷ zs) (map_forth ys (All-tail IsListed y ys all))
+  are_listed : (bs : List Block) → All IsListed (map listed_first bs)
+  are_listed [] = λ k d low. absurd (omega (arith, low))
+  are_listed (b ∷ bs) = All-cons IsListed (listed_first b) (map listed_first bs) refl (are_listed bs)
+
+  map_forth : (ys : List Listed) → All IsListed ys → map listed_first (map block_in ys) ≡ ys
+  map_forth [] all = refl
+  map_forth (y ∷ ys) all = ap (λ z. z ∷ map listed_first (map block_in ys)) (All-head IsListed y ys all) ∙ ap (λ zs. y ∷ zs) (map_forth ys (All-tail IsListed y ys all))
 
 times_sum : (b : Block) (xs : List Block) → times b xs ≡ sum_by (λ x. one_for (same_block b x)) xs
 times_sum b [] = refl
@@ -211,16 +214,6 @@ contains_has (y ∷ ys) x there = elim (Contains-append_cases (y ∷ []) ys x th
     | inr same ↦ or-left (same_block x y) (has_block ys x) (subst (λ z. same_block z y ≡ true) same (same_refl y))
   ]
   | inr behind ↦ or-right (same_block x y) (has_block ys x) (contains_has ys x behind)
-]
-
-live_there : (xs : List (Spot × Block)) (x : Spot × Block) → Contains xs x → list_any (λ y. same_block x.1 y.1) xs ≡ true
-live_there [] x there = absurd (let low = there.1 in omega (arith, low))
-live_there (y ∷ ys) x there = elim (Contains-append_cases (y ∷ []) ys x there) [
-  | inl here ↦ elim (Contains-push_cases [] y x here) [
-    | inl nowhere ↦ absurd (let low = nowhere.1 in omega (arith, low))
-    | inr same ↦ or-left (same_block x.1 y.1) (list_any (λ z. same_block x.1 z.1) ys) (subst (λ z. same_block z.1 y.1 ≡ true) same (same_refl y.1))
-  ]
-  | inr behind ↦ or-right (same_block x.1 y.1) (list_any (λ z. same_block x.1 z.1) ys) (live_there ys x behind)
 ]
 
 -- a block's range is that of its size
@@ -263,54 +256,65 @@ no_nano_run Nano w is = absurd (false≢true is)
 abbrev item : Block → Range → List ℕ → Listed
 item b r z = record { a = b.first; s = b.size; range = r; zone = z }
 
-module _ (L : ListingLaws) (p : Profile) (es : List Entry) (v : Standing) (ok : AreLawful p opening es) (one_zone : p.zones ≡ 1) (bs : List Block) (counts : (b : Block) → times b bs ≡ one_for (is_live (after_all p opening es) b)) (below : AreBelowNano p bs) (zones : v.zones ≡ (0, default_zone) ∷ []) where
+-- a block that ends at nano's pages or before is listed by its size
+below_nano : (p : Profile) (b : Block) → 1 ≤ b.size → block_end b ≤ nano_start p * PAGE → range_in p b ≡ route_of b.size
+below_nano p b some end =
+    let low : b.first < nano_start p * PAGE = omega (arith, some, end) in
+    let no : nat_le (nano_start p * PAGE) b.first ≡ false = grind (arith, nat_tests, low) in
+    rw no refl
+
+-- and one that begins in them is one of nano
+in_nano : (p : Profile) (b : Block) → nano_start p * PAGE ≤ b.first → range_in p b ≡ range.Nano
+in_nano p b from =
+    let yes : nat_le (nano_start p * PAGE) b.first ≡ true = grind (arith, nat_tests, from) in
+    rw yes refl
+
+module _ (L : ListingLaws) (p : Profile) (es : List Entry) (v : Standing) (ok : AreLawful p opening es) (one_zone : p.zones ≡ 1) (bs : List Block) (counts : AreLive bs (after_all p opening es)) (zones : v.zones ≡ (0, default_zone) ∷ []) where
   abbrev s : State
   s = after_all p opening es
 
-  -- a live block lies in a place of zone 0 whose range is that of its size
-  at_home : (j : Spot) (b : Block) → 1 ≤ times b bs → LiesAtHome p s j b → is_size_of (place_of j) b.size ≡ true → (range_of (place_of j) ≡ route_of b.size) × (zone_of (place_of j) ≡ 0)
-  at_home (keeper_at k) b there home size =
+  -- a live block lies in a place of zone 0 whose range is the one by which it is listed
+  at_home :
+      (j : Spot) (b : Block) → 1 ≤ b.size → LiesAtHome p s j b → is_size_of (place_of j) b.size ≡ true
+      → (range_of (place_of j) ≡ range_in p b) × (zone_of (place_of j) ≡ 0)
+  at_home (keeper_at k) b some home size =
       let length = (L.runs_fit p es ok).lengths (keeper_at k) home.0 home.1 in
-      let low = L.in_zones p es (keeper_at k) home.0 ok home.1 in
-      (keeper_range k b.size size (no_nano_run k home.0.pages length), omega (arith, low, one_zone))
-  at_home (nano_page i) b there home size =
+      let zone = L.in_zones p es (keeper_at k) home.0 ok home.1 in
+      let low = (L.separate p es ok).below_nano (keeper_at k) home.0 home.1 in
+      let within = (and_parts (nat_le (home.0.first * PAGE) b.first) (nat_le (block_end b) (run_end home.0 * PAGE)) home.2).1 in
+      let end : block_end b ≤ run_end home.0 * PAGE = grind (arith, nat_tests, within) in (
+        keeper_range k b.size size (no_nano_run k home.0.pages length) ∙ sym (below_nano p b some (omega (arith, low, end))),
+        omega (arith, zone, one_zone),
+      )
+  at_home (nano_page i) b some home size =
       let from = home.0 in
       let start = (and_parts (nat_le (i * PAGE) b.first) (nat_le (block_end b) ((i + 1) * PAGE)) home.2).0 in
       let low : i * PAGE ≤ b.first = grind (arith, nat_tests, start) in
-      let least = (and_parts (b.size % 16 == 0) (nat_le 16 b.size) (and_parts ((b.size % 16 == 0) && nat_le 16 b.size) (nat_le b.size 256) size).0).1 in
-      let some : 16 ≤ b.size = grind (arith, nat_tests, least) in
-      let end = below b there in
-      absurd (omega (arith, from, low, end, some))
+      (sym (in_nano p b (omega (arith, from, low))), refl)
 
   zone_is : (z : ℕ) → z ≡ 0 → zone_name v z ≡ default_zone
   zone_is z first = ap (λ n. zone_name v n) first ∙ ap (λ zs. elim (find (λ (x : ℕ × List ℕ). x.0 == 0) zs) [ None ↦ [] | Some x ↦ x.1 ]) zones
 
-  listed_so : (j : Spot) (b : Block) → 1 ≤ times b bs → has_block (kept_at s j).live b ≡ true → listed v (j, b) ≡ listed_first b
-  listed_so j b among there =
-      let home = at_home j b among ((L.separate p es ok).at_home j b there) ((L.forms p es j b ok there).size) in
-      ap (λ r. item b r (zone_name v (zone_at j))) home.0 ∙ ap (λ z. item b (route_of b.size) z) (zone_is (zone_at j) home.1)
+  listed_so : (j : Spot) (b : Block) → has_block (kept_at s j).live b ≡ true → listed v (j, b) ≡ listed_first p b
+  listed_so j b there =
+      let home = at_home j b ((L.ascending p es ok).sizes j b there) ((L.separate p es ok).at_home j b there) ((L.forms p es j b ok there).size) in
+      ap (λ r. item b r (zone_name v (zone_at j))) home.0 ∙ ap (λ z. item b (range_in p b) z) (zone_is (zone_at j) home.1)
 
-  among : (x : Spot × Block) → Contains (live_blocks s) x → 1 ≤ times x.1 bs
-  among x there =
-      let n = counts x.1 in
-      let one : one_for (is_live s x.1) ≡ 1 = ap one_for (live_there (live_blocks s) x there) in
-      omega (arith, n, one)
+  each_listed : Each (λ x. listed v x ≡ listed_first p x.1) (by_address (live_blocks s))
+  each_listed = each_sorted (λ x. listed v x ≡ listed_first p x.1) (live_blocks s)
+      (each_from (λ x. listed v x ≡ listed_first p x.1) (live_blocks s)
+      (λ x there. listed_so x.0 x.1 (contains_has (kept_at s x.0).live x.1 (((L.by_spot s (L.once p es)).live x.0 x.1).0 there))))
 
-  each_listed : Each (λ x. listed v x ≡ listed_first x.1) (by_address (live_blocks s))
-  each_listed = each_sorted (λ x. listed v x ≡ listed_first x.1) (live_blocks s)
-      (each_from (λ x. listed v x ≡ listed_first x.1) (live_blocks s)
-      (λ x there. listed_so x.0 x.1 (among x there) (contains_has (kept_at s x.0).live x.1 (((L.by_spot s (L.once p es)).live x.0 x.1).0 there))))
-
-  pub is_listing : (ys : List Listed) → IsPermutation (map listed_first bs) ys → IsNonDecreasingBy (λ l. l.a) ys → ys ≡ listing_of v s
+  pub is_listing : (ys : List Listed) → IsPermutation (map (listed_in p default_zone) bs) ys → IsNonDecreasingBy (λ l. l.a) ys → ys ≡ listing_of v s
   is_listing ys moved sorted =
       let zs = map block_in ys in
       let live = map (λ (x : Spot × Block). x.1) (by_address (live_blocks s)) in
-      let blocks_moved : IsPermutation bs zs = subst (λ xs. IsPermutation xs zs) (map_back bs) (IsPermutation-map block_in (map listed_first bs) ys moved) in
+      let blocks_moved : IsPermutation bs zs = subst (λ xs. IsPermutation xs zs) (map_back p bs) (IsPermutation-map block_in (map (listed_first p) bs) ys moved) in
       let same : (b : Block) → times b live ≡ times b zs = λ b.
       L.in_order s b ∙ (L.counted p es b ok ∙ (sym (counts b) ∙ (times_sum b bs ∙ (sym (sum_by-IsPermutation (λ x. one_for (same_block b x)) bs zs blocks_moved) ∙ sym (times_sum b zs))))) in
       let is : zs ≡ live = sorted_same live zs (in_order (by_address (live_blocks s)) (L.ascending p es ok).all) (rises ys sorted) same in
-      let back : map listed_first zs ≡ ys = map_forth ys (All-permutation IsListed (map listed_first bs) ys moved (are_listed bs)) in
+      let back : map (listed_first p) zs ≡ ys = map_forth p ys (All-permutation (IsListed p) (map (listed_first p) bs) ys moved (are_listed p bs)) in
       sym back
-      ∙ (ap (map listed_first) is
-      ∙ (sym (maps_in_turn (by_address (live_blocks s)))
-      ∙ sym (same_map (listed v) (λ x. listed_first x.1) (by_address (live_blocks s)) each_listed)))
+      ∙ (ap (map (listed_first p)) is
+      ∙ (sym (maps_in_turn p (by_address (live_blocks s)))
+      ∙ sym (same_map (listed v) (λ x. listed_first p x.1) (by_address (live_blocks s)) each_listed)))

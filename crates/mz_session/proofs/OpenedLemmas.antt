@@ -1,22 +1,29 @@
 -- What holds of a session before its first command.
-use Rattle.std.proofs.Common.{◌≡◌, true, [], refl, sym, subst, arith}
-use Rattle.std.proofs.lemmas.Option.{none-some}
+use Rattle.std.proofs.Common.{◌≡◌, ℕ, ◌*◌, true, List, [], Option, Some, None, refl, sym, subst, ◌∙◌, arith}
 use Rattle.mz_base.specs.declared.profile.Profile.{Profile}
+use Rattle.mz_base.specs.declared.range.TheConstants.{PAGE}
 use Rattle.mz_base.specs.Site.{Site}
+use Rattle.mz_events.specs.Places.{nano_start}
 use Rattle.mz_events.specs.State.{opening, is_open}
 use Rattle.mz_events.specs.History.{after_all}
+use Rattle.mz_ground.specs.Views.{SpanView}
 use Rattle.mz_book.specs.Account.{Account}
 use Rattle.mz_book.specs.Plain.{opening_account}
-use Rattle.mz_rack.specs.declared.rack.Rack.{Rack}
-use Rattle.mz_session.specs.Names.{NamedLots}
+use Rattle.mz_zone.specs.declared.zone.Zone.{Zone}
+use Rattle.mz_zone.specs.Calling.{Seated, IsSeatedAt}
+use Rattle.mz_session.specs.declared.parcel.Parcel.{Parcel}
+use Rattle.mz_session.specs.Names.{NamedBlocks}
+use Rattle.mz_session.specs.Seats.{IsSeatAt, HasOneSeat}
 use Rattle.mz_session.specs.Sessions.{IsForOne, IsOpened}
 
 zone-open : (p : Profile) → is_open (after_all p opening []) 0 ≡ true
 unfolding after_all
 zone-open p = refl
 
-opened-here : (p : Profile) (x : Site) (r : Rack) → IsForOne p → r.profile ≡ p → r.zone ≡ 0 → IsOpened p (record { rack = r; book = opening_account p x; lots = [] })
-opened-here p x r for_one profile zone = record {
+opened-here :
+    (p : Profile) (x : Site) (z : Zone) (n : Option Seated) → IsForOne p → z.profile ≡ p → z.zone ≡ 0 → IsSeatedAt (opening_account p x) n → HasOneSeat n
+    → IsOpened p (record { zone = z; at = record { book = opening_account p x; nano = n }; blocks = []; parcels = [] })
+opened-here p x z n for_one profile zone seated one = record {
   kept = record {
     profile = profile;
     zone = zone;
@@ -25,18 +32,39 @@ opened-here p x r for_one profile zone = record {
     alone = refl;
     zone_open = zone-open p;
     nothing_held = record { keepers = refl; lights = refl };
-    of_space = λ w l named. absurd (none-some l named);
+    seated = seated;
+    one_seat = one;
+    ours = λ b there. absurd (let low = there.1 in omega (arith, low));
     in_hand = λ b. refl;
     once = λ b. omega arith;
     mine = refl;
-    below_nano = λ b there. absurd (omega (arith, there));
+    new_names = tt;
   };
   profile = refl;
   seen = refl;
-  lots = refl;
+  blocks = refl;
+  parcels = refl;
 }
 
-pub opened : (p : Profile) (x : Site) (r : Rack) (b : Account) (lots : NamedLots) → IsForOne p → r.profile ≡ p → r.zone ≡ 0 → b ≡ opening_account p x → lots ≡ [] → IsOpened p (record { rack = r; book = b; lots = lots })
-opened p x r b lots for_one profile zone first empty =
-    subst (λ ls. IsOpened p (record { rack = r; book = b; lots = ls })) (sym empty)
-    (subst (λ a. IsOpened p (record { rack = r; book = a; lots = [] })) (sym first) (opened-here p x r for_one profile zone))
+pub opened :
+    (p : Profile) (x : Site) (z : Zone) (b : Account) (n : Option Seated) (bs : NamedBlocks) (gs : List Parcel) → IsForOne p → z.profile ≡ p → z.zone ≡ 0
+    → IsSeatedAt (opening_account p x) n → HasOneSeat n → b ≡ opening_account p x → bs ≡ [] → gs ≡ []
+    → IsOpened p (record { zone = z; at = record { book = b; nano = n }; blocks = bs; parcels = gs })
+opened p x z b n bs gs for_one profile zone seated one first unnamed none =
+    subst (λ xs. IsOpened p (record { zone = z; at = record { book = b; nano = n }; blocks = bs; parcels = xs })) (sym none)
+    (subst (λ xs. IsOpened p (record { zone = z; at = record { book = b; nano = n }; blocks = xs; parcels = [] })) (sym unnamed)
+    (subst (λ a. IsOpened p (record { zone = z; at = record { book = a; nano = n }; blocks = []; parcels = [] })) (sym first) (opened-here p x z n for_one profile zone seated one)))
+
+-- nano over the last pages is the book's
+pub seated-new : (p : Profile) (x : Site) (pages : SpanView) (n : Option Seated) → pages.first ≡ nano_start p * PAGE → pages.space ≡ x → IsSeatAt pages p.nano n → IsSeatedAt (opening_account p x) n
+seated-new p x pages None first space new = tt
+seated-new p x pages (Some y) first space new = record {
+  seat = new.sits;
+  first = new.first ∙ first;
+  blocks = new.blocks;
+  space = new.space ∙ space;
+}
+
+pub one-seat-new : (pages : SpanView) (k : ℕ) (n : Option Seated) → IsSeatAt pages k n → HasOneSeat n
+one-seat-new pages k None new = tt
+one-seat-new pages k (Some y) new = new.seats

@@ -7,7 +7,7 @@ use Rattle.std.proofs.Math.Seq.{take-append_seam}
 use Rattle.std.proofs.lemmas.Bool.{false≢true, and_parts, and_from, eq-eqb}
 use Rattle.std.proofs.lemmas.List.{length-take-le, length-drop}
 use Rattle.mz_record.specs.Bytes.{Bytes, filled, low_bytes, linked, is_shown_as}
-use Rattle.mz_session.specs.Counts.{written}
+use Rattle.mz_session.specs.Changes.{written}
 
 -- bytes that were all written are shown as that byte
 pub shown-filled : (n byte : ℕ) → is_shown_as (filled n byte) (replicate n byte) ≡ true

@@ -1,120 +1,155 @@
 -- The session stands for what a record leaves.
-use Rattle.std.proofs.Common.{◌≡◌, ℕ, true, false, cond, List, [], Option, Some, None, length, refl, ap, sym, subst, ◌∙◌, inl, inr}
+use Rattle.std.proofs.Common.{◌≡◌, ℕ, true, false, cond, not, [], Option, Some, None, Ok, refl, ap, sym, subst, ◌∙◌, inl, inr}
 use Rattle.std.specs.Option.{option_map}
-use Rattle.std.specs.Str.{bytes_eq}
 use Rattle.std.proofs.lemmas.Bool.{cases_Bool}
 use Rattle.std.proofs.lemmas.Option.{none-some}
 use Rattle.mz_base.specs.Space.{same_block}
 use Rattle.mz_words.specs.declared.name.Name.{Name}
-use Rattle.mz_words.specs.declared.name.Name.TheVariants.{Base, Batch, Given}
-use Rattle.mz_record.specs.Bytes.{Bytes, fresh, is_shown_as}
+use Rattle.mz_record.specs.Bytes.{Bytes, fresh, cleared, is_shown_as}
 use Rattle.mz_fit.specs.Names.{same_name}
 use Rattle.mz_fit.specs.Standing.{Holding, Caller, Standing, first_standing, caller_at, held_at, bytes_of, with_name, without_name, knowing}
 use Rattle.mz_fit.specs.After.{changed, with_served, without_block}
-use Rattle.mz_rack.specs.Lots.{LotView}
-use Rattle.mz_session.specs.Names.{block_of, lot_named, block_named}
-use Rattle.mz_session.specs.Counts.{AreWith}
-use Rattle.mz_session.specs.Sessions.{SessionView, StandsFor}
+use Rattle.mz_zone.specs.Blocks.{BlockView, block_of}
+use Rattle.mz_zone.specs.Answering.{IsCleared}
+use Rattle.mz_session.specs.Names.{block_with, block_named}
+use Rattle.mz_session.specs.Changes.{AreWith}
+use Rattle.mz_session.specs.Sessions.{SessionView, IsKept, StandsFor, AreHeldOnce, ArePassed}
+use Rattle.mz_session.specs.Serving.{Makes, Holds, Takes, Ends}
 use Rattle.mz_session.proofs.CountLemmas.{some-is}
-use Rattle.mz_session.proofs.HeldLemmas.{held-first, held-forgotten, given-names, forgotten-names, kept-names}
+use Rattle.mz_session.proofs.NameLemmas.{name-symm}
+use Rattle.mz_session.proofs.HeldLemmas.{held-first, held-forgotten, given-names, kept-names, once-more, once-left}
 use Rattle.mz_session.proofs.KnownLemmas.{known-now, known-others, known-forgotten}
+use Rattle.mz_session.proofs.KeepLemmas.{kept-apart, loose-apart}
 
 -- it stands for what is there before the first line
-holds-none : (name : Name) → None ≡ block_named [] name
-holds-none (Base word) = refl
-holds-none (Batch b) = refl
-holds-none (Given g) = refl
-
-pub stands-first : (s : SessionView) → s.lots ≡ [] → StandsFor s first_standing
-stands-first s empty = record {
+pub stands-first : (s : SessionView) → s.blocks ≡ [] → s.parcels ≡ [] → StandsFor s first_standing
+stands-first s empty none = record {
   zones = refl;
-  gifts = refl;
+  gifts = subst (λ ps. ArePassed ps []) (sym none) tt;
   zone = refl;
-  held = λ name. holds-none name ∙ ap (λ lots. block_named lots name) (sym empty);
-  known = λ word l named. absurd (none-some l (ap (λ lots. lot_named lots word) (sym empty) ∙ named));
+  held = λ name. ap (λ bs. block_named bs name) (sym empty);
+  held_once = tt;
+  known = λ name b named. absurd (none-some b (ap (λ bs. block_with bs name) (sym empty) ∙ named));
 }
 
-module _ (s t : SessionView) (v : Standing) (stands : StandsFor s v) where
+module _ (s t : SessionView) (v : Standing) (stands : StandsFor s v) (coming : t.parcels ≡ s.parcels) where
   abbrev me : Caller
   me = caller_at v 0
 
-  stands-changed :
+  -- the caller has changed, as the names have, and what is on its way is as before
+  pub stands-changed :
       (change : Caller → Caller) → (change me).zone ≡ me.zone
-      → ((name : Name) → held_at (change me) name ≡ block_named t.lots name)
-      → ((word : List ℕ) (l : LotView) → lot_named t.lots word ≡ Some l → is_shown_as (bytes_of (change me) (block_of l)) l.span.bytes ≡ true)
+      → ((name : Name) → held_at (change me) name ≡ block_named t.blocks name) → AreHeldOnce (change me).held
+      → ((name : Name) (b : BlockView) → block_with t.blocks name ≡ Some b → is_shown_as (bytes_of (change me) (block_of b)) b.span.bytes ≡ true)
       → StandsFor t (changed 0 change v)
-  stands-changed change same held known = record { zones = stands.zones; gifts = stands.gifts; zone = same ∙ stands.zone; held = held; known = known }
+  stands-changed change same held once known = record {
+    zones = stands.zones;
+    gifts = subst (λ ps. ArePassed ps v.gifts) (sym coming) stands.gifts;
+    zone = same ∙ stands.zone;
+    held = held;
+    held_once = once;
+    known = known;
+  }
 
-  -- a name's lot among those where one name got this lot: that one, or one of before
-  lot-now : (word w : List ℕ) (l m : LotView) → AreWith s.lots word (Some l) t.lots → lot_named t.lots w ≡ Some m → bytes_eq w word ≡ true → l ≡ m
-  lot-now word w l m with_it named same = some-is l m (sym (ap (λ d. cond d (Some l) (lot_named s.lots w)) same) ∙ sym (with_it.named w) ∙ named)
+  -- all names have the blocks of before
+  pub stands-same : ((w : Name) → block_with t.blocks w ≡ block_with s.blocks w) → StandsFor t v
+  stands-same same = record {
+    zones = stands.zones;
+    gifts = subst (λ ps. ArePassed ps v.gifts) (sym coming) stands.gifts;
+    zone = stands.zone;
+    held = λ w. stands.held w ∙ ap (option_map block_of) (sym (same w));
+    held_once = stands.held_once;
+    known = λ w b named. stands.known w b (sym (same w) ∙ named);
+  }
 
-  lot-before : (word w : List ℕ) (got : Option LotView) (m : LotView) → AreWith s.lots word got t.lots → lot_named t.lots w ≡ Some m → bytes_eq w word ≡ false → lot_named s.lots w ≡ Some m
-  lot-before word w got m with_it named other = sym (ap (λ d. cond d got (lot_named s.lots w)) other) ∙ sym (with_it.named w) ∙ named
+  -- a name's block among those where one name got this block: that one, or one of before
+  block-now : (name w : Name) (b c : BlockView) → AreWith s.blocks name (Some b) t.blocks → block_with t.blocks w ≡ Some c → same_name name w ≡ true → b ≡ c
+  block-now name w b c with_it named same = some-is b c (sym (ap (λ d. cond d (Some b) (block_with s.blocks w)) same) ∙ sym (with_it.named w) ∙ named)
+
+  block-before : (name w : Name) (got : Option BlockView) (c : BlockView) → AreWith s.blocks name got t.blocks → block_with t.blocks w ≡ Some c → same_name name w ≡ false → block_with s.blocks w ≡ Some c
+  block-before name w got c with_it named other = sym (ap (λ d. cond d got (block_with s.blocks w)) other) ∙ sym (with_it.named w) ∙ named
 
   -- a block was served, and has the name
   pub stands-served :
-      (word : List ℕ) (l : LotView) → AreWith s.lots word (Some l) t.lots
-      → ((w : List ℕ) (m : LotView) → lot_named s.lots w ≡ Some m → same_block (block_of m) (block_of l) ≡ false)
-      → is_shown_as (fresh (length l.span.bytes)) l.span.bytes ≡ true
-      → StandsFor t (changed 0 (with_served (Base word) 0 (Some (block_of l))) v)
-  stands-served word l with_it apart unknown =
-      let b = block_of l in
-      let h : Holding = record { name = Base word; block = b } in
-      stands-changed (with_served (Base word) 0 (Some b)) refl
-      (λ w. held-first h me.held w ∙ ap (λ o. cond (same_name (Base word) w) (Some b) o) (stands.held w) ∙ given-names s.lots t.lots word l with_it w)
-      (λ w m named. elim (cases_Bool (bytes_eq w word)) [
+      (name : Name) (clear : ℕ) (b : BlockView) → AreWith s.blocks name (Some b) t.blocks → block_with s.blocks name ≡ None
+      → ((w : Name) (c : BlockView) → block_with s.blocks w ≡ Some c → same_block (block_of c) (block_of b) ≡ false)
+      → IsCleared clear b
+      → StandsFor t (changed 0 (with_served name clear (Some (block_of b))) v)
+  stands-served name clear b with_it free apart shown =
+      let x = block_of b in
+      let bs : Bytes = cleared clear (fresh x.size) in
+      let h : Holding = record { name = name; block = x } in
+      stands-changed (with_served name clear (Some x)) refl
+      (λ w. held-first h me.held w ∙ ap (λ o. cond (same_name name w) (Some x) o) (stands.held w) ∙ given-names s.blocks t.blocks name (Some b) with_it w)
+      (once-more h me.held stands.held_once (stands.held name ∙ ap (option_map block_of) free))
+      (λ w c named. elim (cases_Bool (same_name name w)) [
         | inl same ↦
-            subst (λ x. is_shown_as (bytes_of (with_served (Base word) 0 (Some b) me) (block_of x)) x.span.bytes ≡ true) (lot-now word w l m with_it named same)
-            (ap (λ bs. is_shown_as bs l.span.bytes) (known-now b (fresh b.size) (with_name (Base word) b me)) ∙ unknown)
+            subst (λ y. is_shown_as (bytes_of (with_served name clear (Some x) me) (block_of y)) y.span.bytes ≡ true) (block-now name w b c with_it named same)
+            (ap (λ ys. is_shown_as ys b.span.bytes) (known-now x bs (with_name name x me)) ∙ shown)
         | inr other ↦
-            let before = lot-before word w (Some l) m with_it named other in
-            ap (λ bs. is_shown_as bs m.span.bytes) (known-others b (block_of m) (fresh b.size) (with_name (Base word) b me) (apart w m before)) ∙ stands.known w m before
+            let before = block-before name w (Some b) c with_it named other in
+            ap (λ ys. is_shown_as ys c.span.bytes) (known-others x (block_of c) bs (with_name name x me) (apart w c before)) ∙ stands.known w c before
       ])
 
   -- none was served
-  pub stands-unserved : (word : List ℕ) → ((w : List ℕ) → lot_named t.lots w ≡ lot_named s.lots w) → StandsFor t (changed 0 (with_served (Base word) 0 None) v)
-  stands-unserved word same =
-      stands-changed (with_served (Base word) 0 None) refl
-      (λ w. stands.held w ∙ sym (same-names w))
-      (λ w l named. stands.known w l (sym (same w) ∙ named))
-    where
-      same-names : (name : Name) → block_named t.lots name ≡ block_named s.lots name
-      same-names (Base w) = ap (option_map block_of) (same w)
-      same-names (Batch b) = refl
-      same-names (Given g) = refl
+  pub stands-unserved : (name : Name) (clear : ℕ) → ((w : Name) → block_with t.blocks w ≡ block_with s.blocks w) → StandsFor t (changed 0 (with_served name clear None) v)
+  stands-unserved name clear same =
+      stands-changed (with_served name clear None) refl
+      (λ w. stands.held w ∙ ap (option_map block_of) (sym (same w)))
+      stands.held_once
+      (λ w b named. stands.known w b (sym (same w) ∙ named))
 
   -- a block has gone, with its name
-  pub stands-dropped :
-      (word : List ℕ) (l : LotView) → AreWith s.lots word None t.lots
-      → ((w : List ℕ) (m : LotView) → bytes_eq w word ≡ false → lot_named s.lots w ≡ Some m → same_block (block_of m) (block_of l) ≡ false)
-      → StandsFor t (changed 0 (without_block (Base word) (block_of l)) v)
-  stands-dropped word l with_it apart =
-      let b = block_of l in
-      stands-changed (without_block (Base word) b) refl
-      (λ w. held-forgotten me.held word w ∙ ap (λ o. cond (same_name w (Base word)) None o) (stands.held w) ∙ forgotten-names s.lots t.lots word with_it w)
-      (λ w m named. elim (cases_Bool (bytes_eq w word)) [
-        | inl same ↦ absurd (none-some m (sym (ap (λ d. cond d None (lot_named s.lots w)) same) ∙ sym (with_it.named w) ∙ named))
+  pub stands-gone :
+      (name : Name) (b : BlockView) → AreWith s.blocks name None t.blocks
+      → ((w : Name) (c : BlockView) → same_name name w ≡ false → block_with s.blocks w ≡ Some c → same_block (block_of c) (block_of b) ≡ false)
+      → StandsFor t (changed 0 (without_block name (block_of b)) v)
+  stands-gone name b with_it apart =
+      let x = block_of b in
+      stands-changed (without_block name x) refl
+      (λ w. held-forgotten me.held name w ∙ ap (λ o. cond (same_name name w) None o) (stands.held w) ∙ given-names s.blocks t.blocks name None with_it w)
+      (once-left (λ h. not (same_name h.name name)) me.held stands.held_once)
+      (λ w c named. elim (cases_Bool (same_name name w)) [
+        | inl same ↦ absurd (none-some c (sym (ap (λ d. cond d None (block_with s.blocks w)) same) ∙ sym (with_it.named w) ∙ named))
         | inr other ↦
-            let before = lot-before word w None m with_it named other in
-            ap (λ bs. is_shown_as bs m.span.bytes) (known-forgotten b (block_of m) (without_name (Base word) me) (apart w m other before)) ∙ stands.known w m before
+            let before = block-before name w None c with_it named other in
+            ap (λ ys. is_shown_as ys c.span.bytes) (known-forgotten x (block_of c) (without_name name me) (apart w c other before)) ∙ stands.known w c before
       ])
 
   -- bytes of a block were written
   pub stands-written :
-      (word : List ℕ) (l m : LotView) (bs : Bytes) → lot_named s.lots word ≡ Some l → block_of m ≡ block_of l → AreWith s.lots word (Some m) t.lots
-      → ((w : List ℕ) (x : LotView) → bytes_eq w word ≡ false → lot_named s.lots w ≡ Some x → same_block (block_of x) (block_of l) ≡ false)
-      → is_shown_as bs m.span.bytes ≡ true
-      → StandsFor t (changed 0 (knowing (block_of l) bs) v)
-  stands-written word l m bs held same_block_of with_it apart shown =
-      let b = block_of l in
-      stands-changed (knowing b bs) refl
-      (λ w. stands.held w ∙ kept-names s.lots t.lots word m with_it (ap (option_map block_of) held ∙ ap Some (sym same_block_of)) w)
-      (λ w x named. elim (cases_Bool (bytes_eq w word)) [
+      (name : Name) (b c : BlockView) (bs : Bytes) → block_with s.blocks name ≡ Some b → block_of c ≡ block_of b → AreWith s.blocks name (Some c) t.blocks
+      → ((w : Name) (x : BlockView) → same_name name w ≡ false → block_with s.blocks w ≡ Some x → same_block (block_of x) (block_of b) ≡ false)
+      → is_shown_as bs c.span.bytes ≡ true
+      → StandsFor t (changed 0 (knowing (block_of b) bs) v)
+  stands-written name b c bs held same_block_of with_it apart shown =
+      let x = block_of b in
+      stands-changed (knowing x bs) refl
+      (λ w. stands.held w ∙ kept-names s.blocks t.blocks name c with_it (ap (option_map block_of) held ∙ ap Some (sym same_block_of)) w)
+      stands.held_once
+      (λ w y named. elim (cases_Bool (same_name name w)) [
         | inl same ↦
-            subst (λ y. is_shown_as (bytes_of (knowing b bs me) (block_of y)) y.span.bytes ≡ true) (lot-now word w m x with_it named same)
-            (ap (λ c. is_shown_as (bytes_of (knowing b bs me) c) m.span.bytes) same_block_of ∙ ap (λ c. is_shown_as c m.span.bytes) (known-now b bs me) ∙ shown)
+            subst (λ z. is_shown_as (bytes_of (knowing x bs me) (block_of z)) z.span.bytes ≡ true) (block-now name w c y with_it named same)
+            (ap (λ z. is_shown_as (bytes_of (knowing x bs me) z) c.span.bytes) same_block_of ∙ ap (λ ys. is_shown_as ys c.span.bytes) (known-now x bs me) ∙ shown)
         | inr other ↦
-            let before = lot-before word w (Some m) x with_it named other in
-            ap (λ c. is_shown_as c x.span.bytes) (known-others b (block_of x) bs me (apart w x other before)) ∙ stands.known w x before
+            let before = block-before name w (Some c) y with_it named other in
+            ap (λ ys. is_shown_as ys y.span.bytes) (known-others x (block_of y) bs me (apart w y other before)) ∙ stands.known w y before
       ])
+
+-- a request was made, and the block that came has the name
+pub stands-made :
+    (s u t : SessionView) (v : Standing) (name : Name) (n al clear : ℕ) (b : BlockView) → Makes s n al (Ok b) u → Holds u name b t
+    → block_with s.blocks name ≡ None → IsCleared clear b → StandsFor s v
+    → StandsFor t (changed 0 (with_served name clear (Some (block_of b))) v)
+stands-made s u t v name n al clear b makes holds free shown stands =
+    let same = makes.notes.blocks in
+    stands-served s t v stands (holds.renames.parcels ∙ makes.notes.parcels) name clear b (subst (λ bs. AreWith bs name (Some b) t.blocks) same holds.blocks) free
+    (λ w c named. loose-apart u b [] makes.keeps w c (ap (λ bs. block_with bs w) same ∙ named)) shown
+
+-- a block that had the name ended
+pub stands-dropped :
+    (s u t : SessionView) (v : Standing) (name : Name) (b : BlockView) → IsKept s → Takes s name (Some b) u → Ends u b t → StandsFor s v
+    → StandsFor t (changed 0 (without_block name (block_of b)) v)
+stands-dropped s u t v name b kept takes ends stands =
+    stands-gone s t v stands (ends.notes.parcels ∙ takes.1.parcels) name b (subst (AreWith s.blocks name None) (sym ends.notes.blocks) takes.2)
+    (λ w c other named. kept-apart s [] kept w name c b (name-symm w name ∙ other) named takes.0)

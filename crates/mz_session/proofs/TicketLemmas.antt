@@ -18,7 +18,7 @@ counts-indices k (e ∷ es) index =
     (omega (arith, first), counts-indices (k + 1) es (λ i d at. let next = index (suc i) d at in omega (arith, next)))
 
 -- entries that count up in two parts
-counts-parts : (k : ℕ) (es ds : List Entry) → CountsFrom k (es ++ ds) → CountsFrom k es × CountsFrom (k + length es) ds
+pub counts-parts : (k : ℕ) (es ds : List Entry) → CountsFrom k (es ++ ds) → CountsFrom k es × CountsFrom (k + length es) ds
 counts-parts k [] ds counts = (tt, let same : k ≡ k + 0 = omega arith in subst (λ (n : ℕ). CountsFrom n ds) same counts)
 counts-parts k (e ∷ es) ds counts =
     let rest = counts-parts (k + 1) es ds counts.1 in
@@ -34,6 +34,10 @@ rising-counted k (e ∷ es) counts =
 above-from : (k : ℕ) (es : List Entry) → CountsFrom k es → max k (above es) ≡ k + length es
 above-from k [] counts = omega arith
 above-from k (e ∷ es) counts = let rest = above-from (k + 1) es counts.1 in omega (arith, rest, counts.0)
+
+-- those that count from 0 are as many as the number above them
+pub above-counted : (es : List Entry) → CountsFrom 0 es → above es ≡ length es
+above-counted es counts = let many = above-from 0 es counts in omega (arith, many)
 
 -- entries behind others rise above all of them
 pub rising-behind : (before es : List Entry) → CountsFrom 0 (before ++ es) → is_rising_from (above before) es ≡ true

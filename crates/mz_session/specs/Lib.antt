@@ -1,6 +1,9 @@
 pub mod Names
-pub mod Counts
+pub mod Changes
+pub mod Seats
 pub mod Sessions
+pub mod Serving
+pub mod Giving
 pub mod SessionLaws
 pub mod StatisticsLaws
 pub mod Listing

@@ -1,98 +1,108 @@
--- What contracts see of a session, the standing for which it stands, and when it serves a command. This project's own.
-use Rattle.std.specs.Prelude.{ℕ, ◌≡◌, ◌≤◌, ◌==◌, true, List, [], ◌∷◌, ◌++◌, Some, IsTrue}
-use Rattle.std.specs.List.{list_all, AllByRecursion}
+-- What contracts see of a session, what holds of it between two commands, and the standing for which it stands. This project's own.
+use Rattle.std.specs.Prelude.{ℕ, ◌≡◌, ◌≤◌, ◌==◌, true, ◌||◌, Bool, List, [], ◌∷◌, ◌++◌, map, None, Some, IsTrue, Contains, is_some}
+use Rattle.std.specs.List.{list_all, list_any}
+use Rattle.std.specs.Str.{bytes_eq}
 use Rattle.mz_base.specs.declared.profile.Profile.{Profile}
-use Rattle.mz_base.specs.Site.{Site}
 use Rattle.mz_base.specs.Space.{Block}
 use Rattle.mz_events.specs.State.{is_open}
-use Rattle.mz_events.specs.declared.entry.Entry.{Entry}
 use Rattle.mz_words.specs.declared.name.Name.{Name}
-use Rattle.mz_lines.specs.declared.answer.Answer.{Answer}
-use Rattle.mz_trace.specs.declared.tail.Figures.{Figures}
-use Rattle.mz_lines.specs.declared.command.Command.{Command}
+use Rattle.mz_words.specs.declared.name.Name.TheVariants.{Given}
 use Rattle.mz_record.specs.Bytes.{is_shown_as}
-use Rattle.mz_fit.specs.Records.{LineRecord, call}
-use Rattle.mz_fit.specs.Standing.{Standing, default_zone, caller_at, held_at, bytes_of}
-use Rattle.mz_fit.specs.Settings.{Setting}
-use Rattle.mz_fit.specs.Fitting.{FitsRecord}
-use Rattle.mz_fit.specs.After.{after_record}
-use Rattle.mz_fit.specs.Tail.{listing_of, statistics_of}
-use Rattle.mz_book.specs.Account.{Account, HoldsNothing, state_of, hand}
-use Rattle.mz_rack.specs.declared.rack.Rack.{Rack}
-use Rattle.mz_rack.specs.Lots.{LotView}
-use Rattle.mz_session.specs.Names.{NamedLots, block_of, blocks_named, lot_named, block_named}
+use Rattle.mz_fit.specs.Names.{same_name}
+use Rattle.mz_fit.specs.Standing.{Holding, Gift, Standing, default_zone, caller_at, held_at, bytes_of}
+use Rattle.mz_book.specs.Account.{HoldsNothing, state_of, hand}
 use Rattle.mz_book.specs.Living.{times}
-use Rattle.mz_session.specs.Counts.{AreBelowNano}
+use Rattle.mz_zone.specs.declared.zone.Zone.{Zone}
+use Rattle.mz_zone.specs.Blocks.{BlockView, IsAtItsSlot, block_of}
+use Rattle.mz_zone.specs.Calling.{AtView, IsSeatedAt, HasSlot}
+use Rattle.mz_session.specs.declared.parcel.Parcel.{Parcel}
+use Rattle.mz_session.specs.Names.{NamedBlocks, views_named, block_with, block_named}
+use Rattle.mz_session.specs.Seats.{HasOneSeat}
 
 -- a space for one caller, of one zone
 pub record IsForOne (p : Profile) : Type 0 where
   pub callers : p.callers ≡ 1
   pub zones : p.zones ≡ 1
 
--- What contracts see of a session: its rack, the account of its book, and the names that are held with their lots.
+-- What contracts see of a session: its zone, the account of its book with nano where it is there, the names that are held with their
+-- blocks, and the blocks that are on their way, in order.
 pub record SessionView : Type 0 where
-  pub rack : Rack
-  pub book : Account
-  pub lots : NamedLots
+  pub zone : Zone
+  pub at : AtView
+  pub blocks : NamedBlocks
+  pub parcels : List Parcel
 
--- the lot is one of zone 0 and of this space
-pub record IsOfSpace (x : Site) (l : LotView) : Type 0 where
-  pub zone : l.zone ≡ 0
-  pub space : l.span.space ≡ x
+-- the blocks that the session keeps: under names, on their way, and besides these
+abbrev pub views_kept : SessionView → List BlockView → List BlockView
+views_kept s loose = views_named s.blocks ++ map (λ g. g.block) s.parcels ++ loose
 
--- What holds of a session between two commands. The rack is that of zone 0, nothing is held, and the blocks in the caller's hand
--- are just those of the lots that have names, each once; nobody else owns any. None of them is one of nano's.
-pub record IsKept (s : SessionView) : Type 0 where
-  pub profile : s.rack.profile ≡ s.book.profile
-  pub zone : s.rack.zone ≡ 0
-  pub for_one : IsForOne s.book.profile
-  pub caller : s.book.caller ≡ 0
-  pub alone : IsTrue s.book.between
-  pub zone_open : IsTrue (is_open (state_of s.book) 0)
-  pub nothing_held : HoldsNothing s.book
-  pub of_space : (word : List ℕ) (l : LotView) → lot_named s.lots word ≡ Some l → IsOfSpace s.book.site l
-  pub in_hand : (b : Block) → times b (hand s.book) ≡ times b (blocks_named s.lots)
-  pub once : (b : Block) → times b (hand s.book) ≤ 1
-  pub mine : IsTrue (list_all (λ h. h.caller == 0) s.book.pairs)
-  pub below_nano : AreBelowNano s.book.profile (hand s.book)
+abbrev pub blocks_kept : SessionView → List BlockView → List Block
+blocks_kept s loose = map block_of (views_kept s loose)
+
+-- the block is one of zone 0 and of this space, and where it is one of nano its slot is in the caller's hand
+pub record IsOurs (v : AtView) (b : BlockView) : Type 0 where
+  pub zone : b.zone ≡ 0
+  pub space : b.span.space ≡ v.book.site
+  pub slot : HasSlot v.nano b.base b.slot
+  pub place : IsAtItsSlot b
+
+-- blocks on their way come under names of their own, which nobody holds
+abbrev pub AreNewNames : NamedBlocks → List Parcel → Type 0
+AreNewNames bs [] = Unit {0}
+AreNewNames bs (g ∷ gs) = (block_with bs (Given g.name) ≡ None) × ((h : Parcel) → Contains gs h → h.name ≡ g.name → ⊥) × AreNewNames bs gs
+
+-- What holds of a session where it keeps these blocks besides those with names and those on their way. The zone is zone 0, nothing is
+-- held, nano has no other seat, and the blocks in the caller's hand are just those that are kept, each once; nobody else owns any.
+pub record Keeps (s : SessionView) (loose : List BlockView) : Type 0 where
+  pub profile : s.zone.profile ≡ s.at.book.profile
+  pub zone : s.zone.zone ≡ 0
+  pub for_one : IsForOne s.at.book.profile
+  pub caller : s.at.book.caller ≡ 0
+  pub alone : IsTrue s.at.book.between
+  pub zone_open : IsTrue (is_open (state_of s.at.book) 0)
+  pub nothing_held : HoldsNothing s.at.book
+  pub seated : IsSeatedAt s.at.book s.at.nano
+  pub one_seat : HasOneSeat s.at.nano
+  pub ours : (b : BlockView) → Contains (views_kept s loose) b → IsOurs s.at b
+  pub in_hand : (b : Block) → times b (hand s.at.book) ≡ times b (blocks_kept s loose)
+  pub once : (b : Block) → times b (hand s.at.book) ≤ 1
+  pub mine : IsTrue (list_all (λ h. h.caller == 0) s.at.book.pairs)
+  pub new_names : AreNewNames s.blocks s.parcels
+
+-- and between two commands, where it keeps no others
+abbrev pub IsKept : SessionView → Type 0
+IsKept s = Keeps s []
 
 -- the session before the first command
 pub record IsOpened (p : Profile) (s : SessionView) : Type 0 where
   pub kept : IsKept s
-  pub profile : s.book.profile ≡ p
-  pub seen : s.book.seen ≡ []
-  pub lots : s.lots ≡ []
+  pub profile : s.at.book.profile ≡ p
+  pub seen : s.at.book.seen ≡ []
+  pub blocks : s.blocks ≡ []
+  pub parcels : s.parcels ≡ []
 
--- The session stands for a standing: the zone default alone is open, nothing is on its way, and caller 0 is in that zone, holds
--- just these names, and knows of the bytes of their blocks nothing that isn't so.
+-- a block was given under this name: it has the name, or is on its way
+abbrev pub is_given : SessionView → List ℕ → Bool
+is_given s name = is_some (block_with s.blocks (Given (record { base = name }))) || list_any (λ g. bytes_eq g.name.base name) s.parcels
+
+-- the parcels are these gifts to caller 0, and nothing is known of the bytes of these that isn't so
+abbrev pub ArePassed : List Parcel → List Gift → Type 0
+ArePassed [] [] = Unit {0}
+ArePassed [] (x ∷ xs) = ⊥
+ArePassed (g ∷ gs) [] = ⊥
+ArePassed (g ∷ gs) (x ∷ xs) = (x ≡ record { to = 0; name = Given g.name; block = block_of g.block; bytes = x.bytes }) × IsTrue (is_shown_as x.bytes g.block.span.bytes) × ArePassed gs xs
+
+-- no name is held twice
+abbrev pub AreHeldOnce : List Holding → Type 0
+AreHeldOnce [] = Unit {0}
+AreHeldOnce (h ∷ hs) = ((g : Holding) → Contains hs g → IsTrue (same_name g.name h.name) → ⊥) × AreHeldOnce hs
+
+-- The session stands for a standing: the zone default alone is open, the blocks on their way are those of the gifts, and caller 0 is in
+-- that zone, holds just these names, each once, and knows of the bytes of their blocks nothing that isn't so.
 pub record StandsFor (s : SessionView) (v : Standing) : Type 0 where
   pub zones : v.zones ≡ (0, default_zone) ∷ []
-  pub gifts : v.gifts ≡ []
+  pub gifts : ArePassed s.parcels v.gifts
   pub zone : (caller_at v 0).zone ≡ default_zone
-  pub held : (name : Name) → held_at (caller_at v 0) name ≡ block_named s.lots name
-  pub known : (word : List ℕ) (l : LotView) → lot_named s.lots word ≡ Some l → is_shown_as (bytes_of (caller_at v 0) (block_of l)) l.span.bytes ≡ true
-
--- where a command stands, the last so far: all that was noted before it comes before, and its own entries follow
-abbrev pub setting_of : SessionView → SessionView → Standing → Setting
-setting_of s t v = record { profile = s.book.profile; history = t.book.seen; before = s.book.seen; standing = v }
-
--- what became of a command of caller 0
-abbrev pub record_of : Command → List Entry → Answer → LineRecord
-record_of command entries answer = record { line = call 0 command; entries = entries; answer = answer }
-
--- A command of caller 0 was served with this answer. Its entries are the caller's and come behind all others, and the record
--- that they make with the answer fits: whatever standing the session stood for, it stands for what the record leaves.
-pub record Serves (s : SessionView) (command : Command) (answer : Answer) (t : SessionView) : Type 0 where
-  pub entries : List Entry
-  pub kept : IsKept t
-  pub profile : t.book.profile ≡ s.book.profile
-  pub seen : t.book.seen ≡ s.book.seen ++ entries
-  pub mine : AllByRecursion (λ e. e.caller ≡ 0) entries
-  pub fits : (v : Standing) → StandsFor s v → FitsRecord (setting_of s t v) (record_of command entries answer)
-  pub stands : (v : Standing) → StandsFor s v → StandsFor t (after_record (setting_of s t v) (record_of command entries answer))
-
--- these are the figures behind what the session has served, whatever standing it stands for
-abbrev pub HasTail : SessionView → Figures → Type 0
-HasTail s figures =
-    (v : Standing) → StandsFor s v
-    → figures ≡ record { listing = listing_of v (state_of s.book); statistics = statistics_of s.book.profile (state_of s.book) }
+  pub held : (name : Name) → held_at (caller_at v 0) name ≡ block_named s.blocks name
+  pub held_once : AreHeldOnce (caller_at v 0).held
+  pub known : (name : Name) (b : BlockView) → block_with s.blocks name ≡ Some b → is_shown_as (bytes_of (caller_at v 0) (block_of b)) b.span.bytes ≡ true

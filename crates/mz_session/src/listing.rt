@@ -2,33 +2,37 @@
 
 ghost use Rattle.std.specs.Prelude.{◌≡◌, [], ◌∷◌, List, map, IfOk};
 ghost use Rattle.std.specs.List.Sorted.{IsPermutation, IsNonDecreasingBy};
-ghost use Rattle.mz_base.specs.declared.profile.Profile.{Profile};
 ghost use Rattle.mz_base.specs.Limits.{IsWithinLimits};
 ghost use Rattle.mz_events.specs.declared.entry.Entry.{Entry as entry};
 ghost use Rattle.mz_events.specs.State.{opening};
 ghost use Rattle.mz_events.specs.History.{AreLawful, after_all};
 ghost use Rattle.mz_fit.specs.Standing.{Standing, default_zone};
 ghost use Rattle.mz_fit.specs.Tail.{listing_of};
-ghost use Rattle.mz_base.specs.Sizes.{route_of};
+ghost use Rattle.mz_session.specs.Listing.{listed_in};
 ghost use Rattle.mz_session.specs.ListingLaws.{ListingLaws};
 ghost use Rattle.mz_session.specs.Sessions.{IsForOne};
-ghost use Rattle.mz_session.specs.Counts.{AreLive, AreBelowNano};
+ghost use Rattle.mz_session.specs.Listing.{AreLive};
 
 use crate::block::Block;
-use mz_base::{ZoneName, route};
+use mz_base::{PAGE, Profile, Range, ZoneName, route};
 use mz_book::laws::live::{live_blocks_stand_once, runs_are_in_zones};
 use mz_events::laws::{separation, states};
 use mz_trace::Listed;
 use std::alloc::{AllocError, Global};
 
-/// The live blocks of a history as they are listed, all in the zone default of a space for one caller, and none of them one
-/// of nano's.
-pub(crate) fn listing(alloc: Global, blocks: &[Block]) -> Result<Vec<Listed>, AllocError>
-    ensures { IfOk result (λ list. (p : Profile) (es : List entry) (v : Standing) → IsWithinLimits p → IsForOne p → AreLawful p opening es → AreLive blocks.now (after_all p opening es) → AreBelowNano p blocks.now → v.zones ≡ (0, default_zone) ∷ [] → list.items ≡ listing_of v (after_all p opening es)) }
+/// The live blocks of a history as they are listed, all in the zone default of a space for one caller.
+pub(crate) fn listing(
+    alloc: Global,
+    p: &Profile,
+    blocks: &[Block],
+) -> Result<Vec<Listed>, AllocError>
+    requires limits { IsWithinLimits p.now }
+    requires for_one { IsForOne p.now }
+    ensures { IfOk result (λ list. (es : List entry) (v : Standing) → AreLawful p.now opening es → AreLive blocks.now (after_all p.now opening es) → v.zones ≡ (0, default_zone) ∷ [] → list.items ≡ listing_of v (after_all p.now opening es)) }
 {
     of_listings();
     let zone = ZoneName::new(b"default").unwrap();
-    let mut list = list_in_turn(alloc, blocks, zone)?;
+    let mut list = list_in_turn(alloc, p, blocks, zone)?;
     sort(&mut list);
     Ok(list)
 }
@@ -48,10 +52,16 @@ fn of_listings()
 }
 
 // The blocks as they are listed, in their order.
-fn list_in_turn(alloc: Global, blocks: &[Block], zone: ZoneName) -> Result<Vec<Listed>, AllocError>
-    ensures { IfOk result (λ v. v.items ≡ map (λ b. record { a = b.first; s = b.size; range = route_of b.size; zone = zone }) blocks.now) }
+fn list_in_turn(
+    alloc: Global,
+    p: &Profile,
+    blocks: &[Block],
+    zone: ZoneName,
+) -> Result<Vec<Listed>, AllocError>
+    requires limits { IsWithinLimits p.now }
+    ensures { IfOk result (λ v. v.items ≡ map (listed_in p.now zone) blocks.now) }
 {
-    blocks.iter().map(|b| listed(*b, zone)).collect(alloc)
+    blocks.iter().map(|b| listed(p, *b, zone)).collect(alloc)
 }
 
 // Sorts what is listed by address.
@@ -62,14 +72,20 @@ fn sort(list: &mut Vec<Listed>)
     list.sort_unstable_by_key(|block| block.a);
 }
 
-// A block of the zone of this name as it is listed. Its range is that of its size.
-fn listed(block: Block, zone: ZoneName) -> Listed
-    ensures { result ≡ record { a = block.first; s = block.size; range = route_of block.size; zone = zone } }
+// A block of the zone of this name as it is listed.
+fn listed(p: &Profile, block: Block, zone: ZoneName) -> Listed
+    requires limits { IsWithinLimits p.now }
+    ensures { result ≡ listed_in p.now zone block }
 {
+    let range = if block.first() >= (p.pages - p.nano) * PAGE {
+        Range::Nano
+    } else {
+        route(block.size())
+    };
     Listed {
         a: block.first(),
         s: block.size(),
-        range: route(block.size()),
+        range,
         zone,
     }
 }

@@ -6,52 +6,42 @@ use Rattle.mz_lines.specs.declared.answer.Answer.TheVariants as answers
 use Rattle.mz_lines.specs.declared.command.Command.TheVariants.{Fill}
 use Rattle.mz_record.specs.Bytes.{filled}
 use Rattle.mz_fit.specs.Tasks.{filling}
-use Rattle.mz_rack.specs.Lots.{LotView, with_lot_bytes}
-use Rattle.mz_session.specs.Names.{block_of, block_named, lot_named}
-use Rattle.mz_session.specs.Counts.{AreWith}
-use Rattle.mz_session.specs.Sessions.{SessionView, setting_of, Serves}
+use Rattle.mz_zone.specs.Blocks.{BlockView, block_of, with_block_bytes}
+use Rattle.mz_session.specs.Names.{block_with}
+use Rattle.mz_session.specs.Changes.{AreWith}
+use Rattle.mz_session.specs.Sessions.{SessionView}
+use Rattle.mz_session.specs.Serving.{setting_of, Serves}
 use Rattle.mz_session.proofs.ShownLemmas.{shown-filled}
-use Rattle.mz_session.proofs.RecordLemmas.{serves-refused, not-base, with-none, with-some}
-use Rattle.mz_session.proofs.KeptLemmas.{option-none, option-some, with_lots, serves-written}
+use Rattle.mz_session.proofs.RecordLemmas.{serves-refused, with-none, with-some}
+use Rattle.mz_session.proofs.WrittenLemmas.{option-none, option-some, with_blocks, serves-written}
 use Rattle.mz_session.proofs.session.Session.fill.Goals as goal
-
-pub returns-in_default : goal.returns-in_default
-returns-in_default c =
-    let s : SessionView = c.args.self.now in
-    let name = c.args.name in
-    let none : block_named s.lots name ≡ None = not-base s.lots name (λ w is. c.in_default.not-Base w (c.get.ensures ∙ is)) in
-    serves-refused s (Fill name c.args.byte) answers.NotHeld c.requires (λ v stands. with-none s (setting_of s s v) stands name (λ b. filling b c.args.byte) none)
 
 pub returns-then-is_none : goal.returns-then-is_none
 returns-then-is_none c =
     let s : SessionView = c.args.self.now in
     let name = c.args.name in
-    let word = c.in-Base.base in
-    let is = sym c.get.ensures ∙ c.in-Base.is in
-    let inside : lot_named c.self.inside.lots word ≡ None = sym c.get-2.ensures ∙ option-none (λ l. l.now) c.get-2.result c.if-is_none.ensures in
-    let none : lot_named s.lots word ≡ None = ap (λ x. lot_named x.lots word) (sym c.self.view_is) ∙ inside in
-    let block : block_named s.lots name ≡ None = ap (block_named s.lots) is ∙ ap (option_map block_of) none in
-    serves-refused s (Fill name c.args.byte) answers.NotHeld c.requires (λ v stands. with-none s (setting_of s s v) stands name (λ b. filling b c.args.byte) block)
+    let inside : block_with c.self.inside.blocks c.get-name.result ≡ None = sym c.get.ensures ∙ option-none (λ b. b.now) c.get.result c.if-is_none.ensures in
+    let none : block_with s.blocks name ≡ None = ap (λ x. block_with x.blocks name) (sym c.self.view_is) ∙ ap (block_with c.self.inside.blocks) (sym c.get-name.ensures) ∙ inside in
+    serves-refused s (Fill name c.args.byte) answers.NotHeld c.requires (λ v stands. with-none s (setting_of s s v) stands name (λ b. filling b c.args.byte) none)
 
 pub returns : goal.returns
 returns c =
     let s : SessionView = c.args.self.now in
     let name = c.args.name in
     let byte = c.args.byte in
-    let word = c.in-Base.base in
-    let is = sym c.get.ensures ∙ c.in-Base.is in
-    let some = option-some (λ l. l.now) c.get-2.result c.if-is_none.ensures in
-    let l : LotView = some.0 in
-    let held : lot_named s.lots word ≡ Some l = ap (λ x. lot_named x.lots word) (sym c.self.view_is) ∙ (sym c.get-2.ensures ∙ some.1) in
-    let block : block_named s.lots name ≡ Some (block_of l) = ap (block_named s.lots) is ∙ ap (option_map block_of) held in
-    let n = length l.span.bytes in
-    let ws = replicate n byte in
-    let lots = c.fill.new.self in
-    let with_it : AreWith s.lots word (Some (with_lot_bytes l ws)) lots =
-    subst (λ o. AreWith s.lots word (option_map (λ x. with_lot_bytes x (replicate (length x.span.bytes) byte)) o) lots) held
-    (subst (λ x. AreWith x.lots word (option_map (λ y. with_lot_bytes y (replicate (length y.span.bytes) byte)) (lot_named x.lots word)) lots) c.self.view_is c.fill.ensures) in
-    let served = serves-written s lots (Fill name byte) word l ws (λ v. filling (block_of l) byte) (λ v. filled n byte) c.requires held (length-replicate n byte) with_it
-    (λ v stands. with-some s (setting_of s (with_lots s lots) v) stands name (λ b. filling b byte) (block_of l) block)
+    let some = option-some (λ b. b.now) c.get.result c.if-is_none.ensures in
+    let b : BlockView = some.0 in
+    let held : block_with s.blocks name ≡ Some b =
+    ap (λ x. block_with x.blocks name) (sym c.self.view_is) ∙ (ap (block_with c.self.inside.blocks) (sym c.get-name.ensures) ∙ (sym c.get.ensures ∙ some.1)) in
+    let ws = replicate (length b.span.bytes) byte in
+    let bs = c.fill.new.self in
+    let with_it : AreWith s.blocks name (Some (with_block_bytes b ws)) bs =
+    subst (λ o. AreWith s.blocks name (option_map (λ x. with_block_bytes x (replicate (length x.span.bytes) byte)) o) bs) held
+    (subst (λ n. AreWith s.blocks n (option_map (λ y. with_block_bytes y (replicate (length y.span.bytes) byte)) (block_with s.blocks n)) bs) c.get-name.ensures
+    (subst (λ x. AreWith x.blocks c.get-name.result (option_map (λ y. with_block_bytes y (replicate (length y.span.bytes) byte)) (block_with x.blocks c.get-name.result)) bs) c.self.view_is c.fill.ensures)) in
+    let served = serves-written s bs name b ws c.requires held (length-replicate (length b.span.bytes) byte) with_it
+    (Fill name byte) (λ v. filling (block_of b) byte) (λ v. filled (length b.span.bytes) byte)
+    (λ v stands. with-some s (setting_of s (with_blocks s bs) v) stands name (λ x. filling x byte) b held)
     (λ v. (refl, (refl, (refl, λ x. refl))))
-    (λ v stands. shown-filled n byte) in
-    subst (λ x. Serves s (Fill name byte) answers.Done (with_lots x lots)) (sym c.self.view_is) served
+    (λ v stands. shown-filled (length b.span.bytes) byte) in
+    subst (λ x. Serves s (Fill name byte) answers.Done (with_blocks x bs)) (sym c.self.view_is) served

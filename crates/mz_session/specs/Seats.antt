@@ -1,0 +1,42 @@
+-- Nano with the seat of a caller, as a session keeps it. This project's own.
+use Rattle.std.specs.Prelude.{ℕ, ◌≡◌, [], Option, None, Some}
+use Rattle.mz_ground.specs.Views.{SpanView}
+use Rattle.mz_nano.specs.declared.nano.Nano.{Nano}
+use Rattle.mz_nano.specs.declared.deal.Deal.{Deal}
+use Rattle.mz_nano.specs.declared.seat.NanoSeat.{NanoSeat}
+use Rattle.mz_nano.specs.declared.view.Held.{Held}
+use Rattle.mz_nano.specs.SeatLists.{SitsAt, hand_of, space_of, first_of, blocks_of, seats_of}
+use Rattle.mz_book.specs.Account.{Account}
+use Rattle.mz_zone.specs.Calling.{Seated, AtView}
+
+-- nano with the seat, where both are there
+abbrev pub seat_of : Option Nano → Option NanoSeat → Option Seated
+seat_of None seat = None
+seat_of (Some nano) None = None
+seat_of (Some nano) (Some seat) = Some (record { nano = nano; seat = seat })
+
+-- a book alone, where nano is not there
+abbrev pub without_seat : Account → AtView
+without_seat s = record { book = s; nano = None }
+
+-- Nano over these pages, so many, and its one seat, with nothing in hand; where there are no pages there is none.
+pub record IsNewSeat (pages : SpanView) (n : ℕ) (nano : Nano) (seat : NanoSeat) : Type 0 where
+  pub sits : SitsAt nano seat
+  pub hand : hand_of seat ≡ []
+  pub first : first_of nano ≡ pages.first
+  pub blocks : blocks_of nano ≡ n
+  pub space : space_of nano ≡ pages.space
+  pub seats : seats_of nano ≡ 1
+
+abbrev pub IsSeatAt : SpanView → ℕ → Option Seated → Type 0
+IsSeatAt pages n None = n ≡ 0
+IsSeatAt pages n (Some x) = IsNewSeat pages n x.nano x.seat
+
+-- nano has no other seat
+abbrev pub HasOneSeat : Option Seated → Type 0
+HasOneSeat None = Unit {0}
+HasOneSeat (Some x) = seats_of x.nano ≡ 1
+
+-- how a slot goes from the one seat to itself
+abbrev pub deal_of : Held → Deal
+deal_of h = record { block = h.block; slot = h.slot; from = 0; to = 0 }

@@ -1,6 +1,8 @@
 mod TurnLemmas
+mod LaterLemmas
 mod RunIsLawful
 mod BuiltLemmas
+mod ComingLemmas
 mod RunTextLemmas
 mod PassLemmas
 mod BuiltTexts

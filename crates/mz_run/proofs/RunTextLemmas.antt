@@ -1,11 +1,10 @@
 -- A run that turns made is one that has a text: its commands are those of the trace, and what is told has numbers that a line can have.
-use Rattle.std.proofs.Common.{◌≡◌, ℕ, true, false, cond, List, [], ◌∷◌, ◌++◌, map, length, refl, ap, sym, subst, ◌∙◌, arith, append-nil}
+use Rattle.std.proofs.Common.{◌≡◌, true, List, [], ◌∷◌, ◌++◌, map, length, refl, ap, sym, subst, ◌∙◌, arith}
 use Rattle.std.specs.Prelude.{count_by}
 use Rattle.std.specs.List.{flat_map, list_all}
-use Rattle.std.proofs.lemmas.Bool.{and_parts, and_from, false≢true}
+use Rattle.std.proofs.lemmas.Bool.{and_parts, and_from}
 use Rattle.std.proofs.lemmas.List.{length-map}
 use Rattle.std.proofs.lemmas.List.Folds.{list_all-append}
-use Rattle.std.proofs.lemmas.List.Sums.{sum_by-append}
 use Rattle.mz_base.specs.Space.{Block}
 use Rattle.mz_events.specs.Places.{Spot, place_of}
 use Rattle.mz_events.specs.declared.place.Place.{Place}
@@ -14,8 +13,6 @@ use Rattle.mz_events.specs.State.{State}
 use Rattle.mz_record.specs.Listing.{range_of, blocks_by_address}
 use Rattle.mz_fit.specs.Standing.{Standing}
 use Rattle.mz_fit.specs.Tail.{listed, listing_of}
-use Rattle.mz_lines.specs.declared.command.Command.{Command}
-use Rattle.mz_lines.specs.declared.command.Command.TheVariants as command
 use Rattle.mz_trace.specs.declared.run.CallRecord.{CallRecord}
 use Rattle.mz_trace.specs.declared.run.RunRound.{RunRound}
 use Rattle.mz_trace.specs.declared.trace.Trace.{Trace}
@@ -28,9 +25,11 @@ use Rattle.mz_trace.specs.RunForms.{entry_fits, call_record_fits, round_fits, Is
 use Rattle.mz_lines.specs.Answers.{answer_fits}
 use Rattle.mz_trace.specs.Texts.{IsTrace}
 use Rattle.mz_session.specs.Sessions.{SessionView}
-use Rattle.mz_run.specs.Built.{is_built_command, is_built_round, IsBuilt}
+use Rattle.mz_run.specs.Built.{IsBuilt}
+use Rattle.mz_run.specs.Coming.{commands_in_rounds}
 use Rattle.mz_run.specs.Turns.{is_told, Turns, RoundsTurn}
-use Rattle.mz_run.proofs.BuiltLemmas.{built_numbers, rounds_built}
+use Rattle.mz_run.proofs.BuiltLemmas.{built_numbers}
+use Rattle.mz_run.proofs.ComingLemmas.{rounds_give, commands_told}
 use Rattle.mz_run.proofs.RunIsLawful.{round_with, round_is}
 
 -- all records of the rounds
@@ -54,7 +53,7 @@ shape v (r ∷ rs) u (w, here, rest) =
     record {
       lists = here.calls ∷ later.lists;
       rounds_are = ap (λ x. x ∷ rs) (round_is v r w here) ∙ ap (λ xs. round_with here.calls ∷ xs) later.rounds_are;
-      tells = list_all-append is_told here.calls (joined later.lists) ∙ and_from _ _ (turns_told v here.calls w here.turns) later.tells;
+      tells = list_all-append is_told here.calls (joined later.lists) ∙ and_from _ _ (turns_told v here.calls here.served here.turns) later.tells;
     }
 
 -- the commands of a round, as lines
@@ -82,38 +81,6 @@ rounds_fit (ds ∷ lists) lines tells =
     let calls = record_fits ds (commands_fit ds parts.0) tell.0 in
     and_from (round_fits 1 (round_with ds)) (list_all (round_fits 1) (map round_with lists)) (rw calls refl) (rounds_fit lists parts.1 tell.1)
 
--- no command of such a trace gives a block
-no_gift : (base : List ℕ) (c : Command) → is_built_command c ≡ true → command_gives base c ≡ false
-no_gift base (command.Malloc name n) h = refl
-no_gift base (command.Free name) h = refl
-no_gift base (command.Fill name byte) h = refl
-no_gift base (command.Show name off count) h = refl
-no_gift base (command.Link name off target) h = refl
-no_gift base _ h = absurd (false≢true h)
-
-no_gifts : (base : List ℕ) (cs : List Command) → list_all is_built_command cs ≡ true → count_by (command_gives base) cs ≡ 0
-no_gifts base [] h = refl
-no_gifts base (c ∷ cs) h =
-    let parts = and_parts (is_built_command c) (list_all is_built_command cs) h in
-    rw (no_gift base c parts.0) (no_gifts base cs parts.1)
-
-abbrev commands_in : List RunRound → List Command
-commands_in rounds = flat_map (λ round. flat_map (λ calls. map (λ d. d.command) calls) round.callers) rounds
-
-round_gifts : (base : List ℕ) (ds : List CallRecord) → is_built_round (round_of (round_with ds)) ≡ true → count_by (command_gives base) (map (λ d. d.command) ds ++ []) ≡ 0
-round_gifts base ds h =
-    let parts = and_parts (list_all is_built_command (map (λ d. d.command) ds)) true h in
-    ap (count_by (command_gives base)) (append-nil (map (λ d. d.command) ds)) ∙ no_gifts base (map (λ d. d.command) ds) parts.0
-
-rounds_gifts : (base : List ℕ) (lists : List (List CallRecord)) → list_all is_built_round (map round_of (map round_with lists)) ≡ true
-    → count_by (command_gives base) (commands_in (map round_with lists)) ≡ 0
-rounds_gifts base [] h = refl
-rounds_gifts base (ds ∷ lists) h =
-    let parts = and_parts (is_built_round (round_of (round_with ds))) _ h in
-    let first = round_gifts base ds parts.0 in
-    let rest = rounds_gifts base lists parts.1 in
-    omega (arith, sum_by-append (λ x. cond (command_gives base x) 1 0) (map (λ d. d.command) ds ++ []) (commands_in (map round_with lists)), first, rest)
-
 -- the run
 module _ (t : Trace) (is_trace : IsTrace t) (built : IsBuilt t) where
   run_with_text : (lists : List (List CallRecord)) → map round_of (map round_with lists) ≡ t.rounds → list_all is_told (joined lists) ≡ true
@@ -123,13 +90,16 @@ module _ (t : Trace) (is_trace : IsTrace t) (built : IsBuilt t) where
       let lines : list_all (line_fits 1) (lines_of_rounds (map round_of (map round_with lists))) ≡ true =
       ap (λ rs. list_all (line_fits 1) (lines_of_rounds rs)) told_as_trace ∙ ap (λ n. list_all (line_fits n) (lines_of_rounds t.rounds)) (sym one) ∙ is_trace.kept.each in
       let each = rounds_fit lists lines tells in
-      let built_lists : list_all is_built_round (map round_of (map round_with lists)) ≡ true = ap (list_all is_built_round) told_as_trace ∙ rounds_built t built in
       let count : length (map round_with lists) ≡ length t.rounds = sym (length-map (map round_with lists) round_of) ∙ ap length told_as_trace in
       let few = is_trace.few in
       record {
         limits = is_trace.kept.limits;
         each = ap (λ n. list_all (round_fits n) (map round_with lists)) one ∙ each;
-        given_once = λ base. omega (arith, rounds_gifts base lists built_lists);
+        given_once = λ base.
+            let once = is_trace.kept.given_once base in
+            let told = ap (count_by (command_gives base)) (commands_told (map round_with lists) ∙ ap commands_in_rounds told_as_trace) in
+            let count = rounds_give base t.rounds in
+            omega arith;
         few = omega (arith, count, few);
       }
 

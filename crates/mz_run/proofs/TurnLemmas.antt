@@ -9,7 +9,8 @@ use Rattle.mz_lines.specs.declared.command.Command.{Command}
 use Rattle.mz_trace.specs.declared.run.RunEntry.{RunEntry}
 use Rattle.mz_trace.specs.declared.run.CallRecord.{CallRecord}
 use Rattle.mz_trace.specs.declared.run.RunRound.{RunRound}
-use Rattle.mz_session.specs.Sessions.{SessionView, Serves}
+use Rattle.mz_session.specs.Sessions.{SessionView}
+use Rattle.mz_session.specs.Serving.{Serves}
 use Rattle.mz_run.specs.Built.{is_built_command}
 use Rattle.mz_run.specs.Turns.{is_told, step_of, Turn, Turns, RoundTurns, RoundsTurn}
 

@@ -1,5 +1,4 @@
--- What the program runs today: one caller, one zone, and the commands `malloc`, `free`, `fill`, `show` and `link`. This
--- project's own.
+-- What the program runs today: one caller, one zone, and all commands but those that name a zone. This project's own.
 use Rattle.std.specs.Prelude.{ℕ, ◌+◌, ◌==◌, ◌≡◌, Bool, true, false, ◌&&◌, not, List, length, position, Option, Some, IsTrue, if◌then◌else◌}
 use Rattle.std.specs.List.{list_all}
 use Rattle.std.specs.Option.{option_map}
@@ -17,24 +16,24 @@ use Rattle.mz_trace.specs.Texts.{IsTraceText, lines_of}
 abbrev pub is_built_space : Profile → Bool
 is_built_space p = (p.callers == 1) && (p.zones == 1)
 
--- `malloc`, `free`, `fill`, `show` and `link`
+-- all but `zfree` and `use`, which name a zone
 abbrev pub is_built_command : Command → Bool
 is_built_command (Malloc name n) = true
-is_built_command (Calloc name n m) = false
-is_built_command (Valloc name n) = false
-is_built_command (Memalign name al n) = false
-is_built_command (Realloc names n) = false
+is_built_command (Calloc name n m) = true
+is_built_command (Valloc name n) = true
+is_built_command (Memalign name al n) = true
+is_built_command (Realloc names n) = true
 is_built_command (Free name) = true
-is_built_command (FreeAt name off) = false
+is_built_command (FreeAt name off) = true
 is_built_command (ZoneFree zone name) = false
-is_built_command (SizedFree name n) = false
-is_built_command (Size name) = false
+is_built_command (SizedFree name n) = true
+is_built_command (Size name) = true
 is_built_command (Fill name byte) = true
 is_built_command (Show name off count) = true
 is_built_command (Link name off target) = true
-is_built_command (Give name to given) = false
-is_built_command (Batch name count n) = false
-is_built_command (Unbatch name) = false
+is_built_command (Give name to given) = true
+is_built_command (Batch name count n) = true
+is_built_command (Unbatch name) = true
 is_built_command (Use zone) = false
 
 -- `round`, and those commands

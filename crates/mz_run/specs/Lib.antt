@@ -1,4 +1,5 @@
 pub mod Built
+pub mod Coming
 pub mod Turns
 pub mod RunLaws
 pub mod Passing

@@ -7,7 +7,8 @@ use Rattle.mz_trace.specs.declared.run.CallRecord.{CallRecord}
 use Rattle.mz_trace.specs.declared.run.RunRound.{RunRound}
 use Rattle.mz_lines.specs.Answers.{answer_fits}
 use Rattle.mz_trace.specs.RunForms.{entry_fits}
-use Rattle.mz_session.specs.Sessions.{SessionView, Serves}
+use Rattle.mz_session.specs.Sessions.{SessionView}
+use Rattle.mz_session.specs.Serving.{Serves, Delivers}
 use Rattle.mz_run.specs.Built.{is_built_command}
 
 -- an entry as a record has it: whose it is, the section says
@@ -30,12 +31,14 @@ abbrev pub Turns : SessionView → List CallRecord → SessionView → Type 0
 Turns s [] t = s ≡ t
 Turns s (d ∷ ds) t = (u : SessionView) × Turn s d u × Turns u ds t
 
--- what the commands of a round do, which are those of the one caller
+-- what a round does: its commands, which are those of the one caller, and then all that is on its way comes
 pub record RoundTurns (s : SessionView) (r : RunRound) (t : SessionView) : Type 0 where
   pub calls : List CallRecord
+  pub served : SessionView
   pub starts : r.starts ≡ []
   pub callers : r.callers ≡ calls ∷ []
-  pub turns : Turns s calls t
+  pub turns : Turns s calls served
+  pub delivers : Delivers served t
 
 -- what rounds do, one after another
 abbrev pub RoundsTurn : SessionView → List RunRound → SessionView → Type 0

@@ -1,6 +1,6 @@
 //! From a trace to a run of it.
 
-ghost use Rattle.std.specs.Prelude.{◌≡◌, true, IfOk, OnOk, IsTrue, map};
+ghost use Rattle.std.specs.Prelude.{◌≡◌, true, [], ◌∷◌, IfOk, OnOk, IsTrue, map};
 ghost use Rattle.std.specs.List.{list_all};
 ghost use Rattle.mz_fit.specs.LawfulRun.{IsLawfulRun};
 ghost use Rattle.mz_fit.specs.Tail.{tail_of};
@@ -8,9 +8,11 @@ ghost use Rattle.mz_trace.specs.RunForms.{IsRun, IsTail};
 ghost use Rattle.mz_trace.specs.RunTexts.{round_of};
 ghost use Rattle.mz_trace.specs.Texts.{IsTrace};
 ghost use Rattle.mz_trace.specs.RunForms.{entry_fits};
-ghost use Rattle.mz_session.specs.Sessions.{IsKept, Serves};
+ghost use Rattle.mz_session.specs.Sessions.{IsKept};
+ghost use Rattle.mz_session.specs.Serving.{Serves};
 ghost use Rattle.mz_run.specs.RunLaws.{RunLaws};
 ghost use Rattle.mz_run.specs.Built.{IsBuilt, is_built_round, is_built_command};
+ghost use Rattle.mz_run.specs.Coming.{CanCome, commands_in, commands_in_rounds};
 ghost use Rattle.mz_run.specs.Turns.{step_of, Turn, Turns, RoundTurns, RoundsTurn};
 
 use crate::told;
@@ -68,6 +70,7 @@ fn serve_rounds<R: Wait + Sync, G: Gate>(
 ) -> Result<Vec<RunRound>, AllocError>
     requires built { IsTrue (list_all is_built_round rounds.now) }
     requires kept { IsKept session.old }
+    requires can { CanCome session.old (commands_in_rounds rounds.now) }
     ensures kept { OnOk result (IsKept session.new) }
     ensures turns { IfOk result (λ rs. RoundsTurn session.old rs.items session.new) }
     ensures rounds { IfOk result (λ rs. map round_of rs.items ≡ rounds.now) }
@@ -90,6 +93,7 @@ fn serve_round<R: Wait + Sync, G: Gate>(
 ) -> Result<RunRound, AllocError>
     requires built { IsTrue (is_built_round round.now) }
     requires kept { IsKept session.old }
+    requires can { CanCome session.old (commands_in round.now) }
     ensures kept { OnOk result (IsKept session.new) }
     ensures turns { IfOk result (λ r. RoundTurns session.old r session.new) }
     ensures round { IfOk result (λ r. round_of r ≡ round.now) }
@@ -98,6 +102,7 @@ fn serve_round<R: Wait + Sync, G: Gate>(
         unreachable!();
     };
     let records = serve_commands(rt, alloc, session, commands.as_slice(), gate)?;
+    session.deliver(alloc)?;
     let callers = vec![in alloc; Items::of(records)]?;
     Ok(RunRound {
         starts: Items::new(alloc),
@@ -115,6 +120,7 @@ fn serve_commands<R: Wait + Sync, G: Gate>(
 ) -> Result<Vec<CallRecord>, AllocError>
     requires built { IsTrue (list_all is_built_command commands.now) }
     requires kept { IsKept session.old }
+    requires can { CanCome session.old commands.now }
     ensures kept { OnOk result (IsKept session.new) }
     ensures turns { IfOk result (λ ds. Turns session.old ds.items session.new) }
     ensures commands { IfOk result (λ ds. map (λ d. d.command) ds.items ≡ commands.now) }
@@ -137,6 +143,7 @@ fn serve_command<R: Wait>(
 ) -> Result<CallRecord, AllocError>
     requires built { IsTrue (is_built_command command.now) }
     requires kept { IsKept session.old }
+    requires can { CanCome session.old (command.now ∷ []) }
     ensures turn { IfOk result (λ d. Turn session.old d session.new) }
     ensures command { IfOk result (λ d. d.command ≡ command.now) }
 {
@@ -158,15 +165,26 @@ fn answer_to<R: Wait>(
 ) -> Result<Answer, AllocError>
     requires built { IsTrue (is_built_command command.now) }
     requires kept { IsKept session.old }
+    requires can { CanCome session.old (command.now ∷ []) }
     ensures { IfOk result (λ answer. Serves session.old command.now answer session.new) }
 {
     match *command {
         Command::Malloc { name, n } => session.malloc(rt, name, n),
+        Command::Calloc { name, n, m } => session.calloc(rt, name, n, m),
+        Command::Valloc { name, n } => session.valloc(rt, name, n),
+        Command::Memalign { name, al, n } => session.memalign(rt, name, al, n),
+        Command::Realloc { names, n } => session.realloc(rt, names, n),
         Command::Free { name } => session.free(rt, name),
+        Command::FreeAt { name, off } => session.free_at(rt, name, off),
+        Command::SizedFree { name, n } => session.free_of_size(rt, name, n),
+        Command::Size { name } => Ok(session.size(name)),
         Command::Fill { name, byte } => Ok(session.fill(name, byte)),
         Command::Show { name, off, count } => Ok(session.show(name, off, count)),
         Command::Link { name, off, target } => Ok(session.link(name, off, target)),
-        _ => unreachable!(),
+        Command::Give { name, to, given } => session.give(name, to, given),
+        Command::Batch { name, count, n } => session.batch(rt, name, count, n),
+        Command::Unbatch { name } => session.unbatch(rt, name),
+        Command::ZoneFree { .. } | Command::Use { .. } => unreachable!(),
     }
 }
 

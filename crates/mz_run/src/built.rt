@@ -43,25 +43,7 @@ fn is_built_space(space: &Profile) -> bool
 fn is_built_command(command: &Command) -> bool
     ensures { result ≡ is_built_command command.now }
 {
-    match command {
-        Command::Malloc { .. }
-        | Command::Free { .. }
-        | Command::Fill { .. }
-        | Command::Show { .. }
-        | Command::Link { .. } => true,
-        Command::Calloc { .. }
-        | Command::Valloc { .. }
-        | Command::Memalign { .. }
-        | Command::Realloc { .. }
-        | Command::FreeAt { .. }
-        | Command::ZoneFree { .. }
-        | Command::SizedFree { .. }
-        | Command::Size { .. }
-        | Command::Give { .. }
-        | Command::Batch { .. }
-        | Command::Unbatch { .. }
-        | Command::Use { .. } => false,
-    }
+    !matches!(command, Command::ZoneFree { .. } | Command::Use { .. })
 }
 
 // Each of the following goes over lines of which the first has the given number, and tells the number

@@ -12,6 +12,7 @@ mod generated;
 mod inputs;
 mod large;
 mod regions;
+mod rows;
 mod unbuilt;
 
 // More bytes than any output below has.

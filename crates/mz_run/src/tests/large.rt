@@ -180,32 +180,27 @@ fn a_large_block_beside_nano(rt: HostRuntime) -> Result<(), Fail> {
     check_rows_in(&rt, rt.alloc(), space, [row].as_slice())
 }
 
-// The row `cache-limit`, its batch as lines: of 17 freed runs the one that was freed first goes back to the
-// pages.
+// The row `cache-limit`: of 17 freed runs the one that was freed first goes back to the pages.
 #[test]
 fn the_cache_has_sixteen_runs(rt: HostRuntime) -> Result<(), Fail> {
     let alloc = rt.alloc();
-    let mut trace = format!(in alloc; "mzone-trace 1\n{SPACE}round\n")?;
-    let mut run = format!(in alloc; "mzone-run 1\n{SPACE}round\ncaller 0\n")?;
+    let trace = format!(in alloc;
+        "mzone-trace 1\n{SPACE}round\n0 batch a 17 40000\n0 unbatch a\n"
+    )?;
+    let mut run = format!(in alloc; "mzone-run 1\n{SPACE}round\ncaller 0\n> batch a 17 40000\n")?;
     for i in 0..17u64 {
         let (ticket, page, address) = (3 * i, 3 * i, 49_152 * i);
-        writeln!(trace, "0 malloc a{i} 40000")?;
-        writeln!(run, "> malloc a{i} 40000")?;
         writeln!(run, "{ticket} full 0l 3 1")?;
         writeln!(run, "{} take 0l {page} 3", ticket + 1)?;
         writeln!(run, "{} new 0l {address} 49152 16", ticket + 2)?;
-        writeln!(run, "= block {address} 49152")?;
     }
+    run.push_str("= got 17\n> unbatch a\n")?;
     for i in 0..17u64 {
-        writeln!(trace, "0 free a{i}")?;
-        writeln!(run, "> free a{i}\n{} end 0l {} 49152", 51 + i, 49_152 * i)?;
-        if i == 16 {
-            run.push_str("68 back 0l 0 3\n")?;
-        }
-        run.push_str("= ok\n")?;
+        writeln!(run, "{} end 0l {} 49152", 51 + i, 49_152 * i)?;
     }
     run.push_str(
-        "end\nblocks_in_use 0\nsize_in_use 0\nmax_size_in_use 835584\nsize_allocated 786432\n",
+        "68 back 0l 0 3\n= freed 17\nend\n\
+        blocks_in_use 0\nsize_in_use 0\nmax_size_in_use 835584\nsize_allocated 786432\n",
     )?;
     let (status, output) = outcome(&rt, alloc, "run", trace.as_str())?;
     assert_eq!(rt; status, Status::Done);

@@ -8,34 +8,29 @@ use std::sync::Wait;
 use std::test::Fail;
 use std::thread::Threads;
 
-// The row `joining`: blocks of 1,008 bytes up to the end of the region, where four blocks more fit.
+// The row `joining`: a batch of blocks of 1,008 bytes up to the end of the region, where four blocks more fit.
 // Three of them are freed, and one of 1,008 bytes takes their place. Then the region is exhausted.
 #[test]
 fn joining_and_exhaustion(rt: HostRuntime) -> Result<(), Fail> {
     let alloc = rt.alloc();
-    let mut trace = format!(in alloc; "mzone-trace 1\n{SPACE}round\n")?;
-    let mut run = format!(in alloc; "mzone-run 1\n{SPACE}round\ncaller 0\n")?;
+    let trace = format!(in alloc;
+        "mzone-trace 1\n{SPACE}round\n0 batch a 1039 1008\n\
+        0 malloc x 336\n0 malloc y 336\n0 malloc z 336\n0 malloc w 256\n\
+        0 free x\n0 free z\n0 free y\n0 malloc v 1008\n0 malloc q 16\n"
+    )?;
+    let mut run = format!(in alloc;
+        "mzone-run 1\n{SPACE}round\ncaller 0\n> batch a 1039 1008\n\
+        0 full 0t0 1008 16\n1 full 0td 1008 16\n2 take 0t0 0 64\n"
+    )?;
     let mut listing = String::new(alloc);
-    run.push_str("> malloc a0 1008\n0 full 0t0 1008 16\n1 full 0td 1008 16\n2 take 0t0 0 64\n")?;
     for i in 0..1_039u64 {
         let address = i * 1_008;
-        writeln!(trace, "0 malloc a{i} 1008")?;
-        if i > 0 {
-            writeln!(run, "> malloc a{i} 1008")?;
-        }
-        write!(
-            run,
-            "{} new 0t0 {address} 1008 16\n= block {address} 1008\n",
-            i + 3
-        )?;
+        writeln!(run, "{} new 0t0 {address} 1008 16", i + 3)?;
         writeln!(listing, "block {address} 1008 tiny default")?;
     }
-    trace.push_str(
-        "0 malloc x 336\n0 malloc y 336\n0 malloc z 336\n0 malloc w 256\n\
-        0 free x\n0 free z\n0 free y\n0 malloc v 1008\n0 malloc q 16\n",
-    )?;
     run.push_str(
-        "> malloc x 336\n\
+        "= got 1039\n\
+        > malloc x 336\n\
         1042 new 0t0 1047312 336 16\n\
         = block 1047312 336\n\
         > malloc y 336\n\
@@ -81,59 +76,53 @@ fn joining_and_exhaustion(rt: HostRuntime) -> Result<(), Fail> {
     Ok(())
 }
 
-// The rows `threshold` and `empty-depot-region`, their batches as lines: two tiny regions are filled with blocks of 512 bytes, and
-// all but one of the first region are freed, and then those of the second. With 1,023 of these left the first region goes to
-// the depot, and with its one block to the free pages.
+// Entries that make blocks of 512 bytes, from number `from` to below `to` of the space; the first has the ticket.
+fn news(run: &mut String, ticket: u64, from: u64, to: u64) -> Result<(), AllocError> {
+    for i in from..to {
+        let ticket = ticket.wrapping_add(i - from);
+        writeln!(run, "{ticket} new 0t0 {} 512 16", i.wrapping_mul(512))?;
+    }
+    Ok(())
+}
+
+// Entries that end them.
+fn ends(run: &mut String, ticket: u64, from: u64, to: u64) -> Result<(), AllocError> {
+    for i in from..to {
+        let ticket = ticket.wrapping_add(i - from);
+        writeln!(run, "{ticket} end 0t0 {} 512", i.wrapping_mul(512))?;
+    }
+    Ok(())
+}
+
+// The rows `threshold` and `empty-depot-region`: two tiny regions are filled with blocks of 512 bytes, and all but one of the
+// first region are freed, and then those of the second. With 1,023 of these left the first region goes to the depot, and with
+// its one block to the free pages.
 #[test]
 fn threshold_and_empty_depot_region(rt: HostRuntime) -> Result<(), Fail> {
     let alloc = rt.alloc();
     let space = "space 128 callers 1 magazines 1 nano 0 gen 1024 zones 1\n";
-    let mut trace = format!(in alloc; "mzone-trace 1\n{space}round\n")?;
-    let mut run = format!(in alloc; "mzone-run 1\n{space}round\ncaller 0\n")?;
-    for i in 0..4_096u64 {
-        let address = i * 512;
-        writeln!(trace, "0 malloc b{i} 512")?;
-        writeln!(run, "> malloc b{i} 512")?;
-        let regions = i / 2_048;
-        if i % 2_048 == 0 {
-            let page = i / 32;
-            let ticket = i + 3 * regions;
-            writeln!(run, "{ticket} full 0t0 512 16")?;
-            writeln!(run, "{} full 0td 512 16", ticket + 1)?;
-            writeln!(run, "{} take 0t0 {page} 64", ticket + 2)?;
-        }
-        let ticket = i + 3 * regions + 3;
-        writeln!(
-            run,
-            "{ticket} new 0t0 {address} 512 16\n= block {address} 512"
-        )?;
-    }
-    for i in 0..2_047u64 {
-        writeln!(trace, "0 free b{i}")?;
-        writeln!(
-            run,
-            "> free b{i}\n{} end 0t0 {} 512\n= ok",
-            4_102 + i,
-            i * 512
-        )?;
-    }
-    for i in 2_048..4_096u64 {
-        writeln!(trace, "0 free b{i}")?;
-        let moved = u64::from(i > 3_073);
-        writeln!(
-            run,
-            "> free b{i}\n{} end 0t0 {} 512",
-            4_101 + i + moved,
-            i * 512
-        )?;
-        if i == 3_073 {
-            run.push_str("7175 move 0 0t0 0td\n")?;
-        }
-        run.push_str("= ok\n")?;
-    }
-    trace.push_str("0 free b2047\n")?;
+    let trace = format!(in alloc;
+        "mzone-trace 1\n{space}round\n0 batch a 2047 512\n0 malloc k 512\n0 batch b 2048 512\n\
+        0 unbatch a\n0 unbatch b\n0 free k\n"
+    )?;
+    let mut run = format!(in alloc;
+        "mzone-run 1\n{space}round\ncaller 0\n> batch a 2047 512\n\
+        0 full 0t0 512 16\n1 full 0td 512 16\n2 take 0t0 0 64\n"
+    )?;
+    news(&mut run, 3, 0, 2_047)?;
     run.push_str(
-        "> free b2047\n8198 end 0td 1048064 512\n8199 back 0td 0 64\n= ok\nend\n\
+        "= got 2047\n> malloc k 512\n2050 new 0t0 1048064 512 16\n= block 1048064 512\n\
+        > batch b 2048 512\n2051 full 0t0 512 16\n2052 full 0td 512 16\n2053 take 0t0 64 64\n",
+    )?;
+    news(&mut run, 2_054, 2_048, 4_096)?;
+    run.push_str("= got 2048\n> unbatch a\n")?;
+    ends(&mut run, 4_102, 0, 2_047)?;
+    run.push_str("= freed 2047\n> unbatch b\n")?;
+    ends(&mut run, 6_149, 2_048, 3_074)?;
+    run.push_str("7175 move 0 0t0 0td\n")?;
+    ends(&mut run, 7_176, 3_074, 4_096)?;
+    run.push_str(
+        "= freed 2048\n> free k\n8198 end 0td 1048064 512\n8199 back 0td 0 64\n= ok\nend\n\
         blocks_in_use 0\nsize_in_use 0\nmax_size_in_use 2097152\nsize_allocated 1048576\n",
     )?;
     let (status, output) = outcome(&rt, alloc, "run", trace.as_str())?;

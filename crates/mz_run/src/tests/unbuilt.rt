@@ -31,25 +31,18 @@ fn not_built<R: Threads + Wait + Sync + Abort>(
 fn lines_that_are_not_built(rt: HostRuntime) -> Result<(), Fail> {
     let alloc = rt.alloc();
     let rows = [
-        ("round\n0 malloc a 8\n0 calloc b 1 1\n", 5),
-        ("round\n0 valloc a 8\n", 4),
-        ("round\n0 memalign a 32 8\n", 4),
-        ("round\n0 realloc null a 8\n", 4),
-        ("round\n0 freeat a 0\n", 4),
+        ("round\n0 malloc a 8\n0 zfree default a\n", 5),
         ("round\n0 zfree default a\n", 4),
-        ("round\n0 sfree a 8\n", 4),
-        ("round\n0 size a\n", 4),
-        ("round\n0 give a 0 @a\n", 4),
-        ("round\n0 batch a 1 8\n", 4),
-        ("round\n0 unbatch a\n", 4),
         ("round\n0 use default\n", 4),
         ("round\nzone z\n", 4),
         ("round\ndestroy default\n", 4),
         ("round\nsize default 0\n", 4),
         ("round\nwhere 0\n", 4),
         (
-            "round\nround\n0 free a\n0 fill a 1\n0 show a 0 1\n0 link a 0 a\n0 malloc a 32769\n0 size a\n0 calloc a 1 1\n",
-            10,
+            "round\nround\n0 free a\n0 fill a 1\n0 show a 0 1\n0 link a 0 a\n0 malloc a 32769\n0 size a\n0 calloc a 1 1\n\
+             0 valloc b 8\n0 memalign c 32 8\n0 realloc c d 8\n0 freeat d 0\n0 sfree b 8\n0 give a 0 @a\n0 batch e 1 8\n0 unbatch e\n\
+             0 use default\n0 zfree default a\n",
+            20,
         ),
     ];
     for (lines, line) in rows {

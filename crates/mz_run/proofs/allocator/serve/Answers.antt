@@ -15,7 +15,9 @@ use Rattle.mz_fit.specs.LawfulRun.{IsLawfulRun, last_standing}
 use Rattle.mz_fit.specs.Tail.{tail_of}
 use Rattle.mz_run.specs.Built.{is_built_round}
 use Rattle.mz_run.proofs.BuiltLemmas.{built_numbers, rounds_built}
-use Rattle.mz_run.proofs.RunIsLawful.{run_is_lawful, stands_last, tail_is}
+use Rattle.mz_run.proofs.RunIsLawful.{run_is_lawful, none_coming, stands_last, tail_is}
+use Rattle.mz_run.proofs.ComingLemmas.{trace_comes}
+use Rattle.mz_run.specs.Coming.{CanCome, commands_in_rounds}
 use Rattle.mz_run.proofs.RunTextLemmas.{run_has_text, ranges_are_listed}
 use Rattle.mz_run.proofs.allocator.serve.Goals as goal
 
@@ -29,8 +31,17 @@ serve_rounds-requires-clause-built g c κs within =
 pub serve_rounds-requires-clause-kept : goal.serve_rounds-requires-clause-kept
 serve_rounds-requires-clause-kept g c κs within = c.in_ok-session.ensures.kept
 
-pub tail-requires : goal.tail-requires
-tail-requires g c = c.in_ok-rounds.ensures.kept
+pub serve_rounds-requires-clause-can : goal.serve_rounds-requires-clause-can
+serve_rounds-requires-clause-can g c κs within =
+    subst (λ (l : List Round). CanCome c.in_ok-session.session (commands_in_rounds l)) (sym c.as_slice.ensures)
+    (trace_comes c.args.trace.now c.in_ok-session.session c.requires.trace c.requires.built c.in_ok-session.ensures)
+
+pub tail-requires-clause-kept : goal.tail-requires-clause-kept
+tail-requires-clause-kept g c = c.in_ok-rounds.ensures.kept
+
+pub tail-requires-clause-delivered : goal.tail-requires-clause-delivered
+tail-requires-clause-delivered g c =
+    none_coming c.in_ok-session.session c.serve_rounds.new.session c.in_ok-rounds.rounds.items c.in_ok-session.ensures.parcels c.in_ok-rounds.ensures.turns
 
 pub listing-requires : goal.listing-requires
 listing-requires g c =
@@ -44,7 +55,7 @@ listing-requires g c =
     let w = last_standing (record { profile = t.profile; rounds = rounds }) in
     let stands = stands_last c.of_runs.ensures t rounds v u opened turns lawful in
     ap (list_all (λ (l : Listed). is_listed_range l.range)) (c.as_slice-2.ensures ∙ ap (λ (f : Figures). f.listing) (c.in_ok-figures.ensures.tail w stands))
-    ∙ ranges_are_listed w (after_all u.book.profile opening u.book.seen)
+    ∙ ranges_are_listed w (after_all u.at.book.profile opening u.at.book.seen)
 
 pub returns-clause-lawful : goal.returns-clause-lawful
 returns-clause-lawful g c =

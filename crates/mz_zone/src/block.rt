@@ -8,6 +8,7 @@ ghost use Rattle.mz_zone.specs.contracts.block.Block.{the_row};
 
 use mz_nano::SlotSpan;
 use mz_rack::Lot;
+use std::fmt;
 use std::marker::Model;
 
 /// What a block is made of.
@@ -122,5 +123,16 @@ impl Block {
     {
         // The struct's invariant is known of a value whose field is named, and an empty body names none.
         let _ = &self.inner;
+    }
+}
+
+impl fmt::Debug for Block {
+    /// Its zone, its first address and its size. What its bytes are isn't told.
+    fn fmt<W: fmt::Write>(&self, f: &mut fmt::Formatter<W>) -> fmt::Result {
+        f.debug_struct("Block")
+            .field("zone", &self.zone())
+            .field("first", &self.first())
+            .field("size", &self.size())
+            .finish()
     }
 }

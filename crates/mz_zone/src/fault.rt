@@ -6,7 +6,7 @@ use crate::block::Block;
 use mz_rack::Null;
 
 /// That a block is of another zone: the block, as it was handed in, and the ticket of the entry that says so.
-#[derive(Drop)]
+#[derive(Debug, Drop)]
 pub struct NotLiveBlock {
     pub block: Block,
     pub ticket: u64,
@@ -64,7 +64,7 @@ impl AlignFault {
 }
 
 /// Why a block didn't get another size. It comes back as it was.
-#[derive(Drop)]
+#[derive(Debug, Drop)]
 pub enum ReallocFault {
     /// It is of another zone.
     NotLive(NotLiveBlock),
@@ -85,7 +85,7 @@ impl ReallocFault {
 }
 
 /// Why a block wasn't freed by its size. It comes back as it was.
-#[derive(Drop)]
+#[derive(Debug, Drop)]
 pub enum SizeFault {
     /// It is of another zone.
     NotLive(NotLiveBlock),

@@ -344,6 +344,8 @@ fn nano_retires(rt: HostRuntime) -> Result<(), Fail> {
     let run = run.as_str();
     assert_eq!(rt; lines_with(run, "= null"), 0);
     assert_eq!(rt; lines_with(run, "= block"), 20);
+    // A block of nano retires at the fourth pop or push, so each of the two serves two requests.
+    assert_eq!(rt; lines_with(run, " new n "), 4);
     assert!(rt; lines_with(run, " take 0t0 ") > 0);
     Ok(())
 }

@@ -1,5 +1,5 @@
 -- What holds of a session before its first command.
-use Rattle.std.proofs.Common.{◌≡◌, ℕ, ◌*◌, true, List, [], Option, Some, None, refl, sym, subst, ◌∙◌, arith}
+use Rattle.std.proofs.Common.{◌≡◌, ◌*◌, true, List, [], Option, Some, None, refl, sym, subst, ◌∙◌, arith}
 use Rattle.mz_base.specs.declared.profile.Profile.{Profile}
 use Rattle.mz_base.specs.declared.range.TheConstants.{PAGE}
 use Rattle.mz_base.specs.Site.{Site}
@@ -56,7 +56,7 @@ opened p x z b n bs gs for_one profile zone seated one first unnamed none =
     (subst (λ a. IsOpened p (record { zone = z; at = record { book = a; nano = n }; blocks = []; parcels = [] })) (sym first) (opened-here p x z n for_one profile zone seated one)))
 
 -- nano over the last pages is the book's
-pub seated-new : (p : Profile) (x : Site) (pages : SpanView) (n : Option Seated) → pages.first ≡ nano_start p * PAGE → pages.space ≡ x → IsSeatAt pages p.nano n → IsSeatedAt (opening_account p x) n
+pub seated-new : (p : Profile) (x : Site) (pages : SpanView) (n : Option Seated) → pages.first ≡ nano_start p * PAGE → pages.space ≡ x → IsSeatAt pages p n → IsSeatedAt (opening_account p x) n
 seated-new p x pages None first space new = tt
 seated-new p x pages (Some y) first space new = record {
   seat = new.sits;
@@ -65,6 +65,6 @@ seated-new p x pages (Some y) first space new = record {
   space = new.space ∙ space;
 }
 
-pub one-seat-new : (pages : SpanView) (k : ℕ) (n : Option Seated) → IsSeatAt pages k n → HasOneSeat n
-one-seat-new pages k None new = tt
-one-seat-new pages k (Some y) new = new.seats
+pub one-seat-new : (pages : SpanView) (p : Profile) (n : Option Seated) → IsSeatAt pages p n → HasOneSeat n
+one-seat-new pages p None new = tt
+one-seat-new pages p (Some y) new = new.seats

@@ -1,11 +1,12 @@
 -- Nano with the seat of a caller, as a session keeps it. This project's own.
-use Rattle.std.specs.Prelude.{ℕ, ◌≡◌, [], Option, None, Some}
+use Rattle.std.specs.Prelude.{◌≡◌, [], Option, None, Some}
+use Rattle.mz_base.specs.declared.profile.Profile.{Profile}
 use Rattle.mz_ground.specs.Views.{SpanView}
 use Rattle.mz_nano.specs.declared.nano.Nano.{Nano}
 use Rattle.mz_nano.specs.declared.deal.Deal.{Deal}
 use Rattle.mz_nano.specs.declared.seat.NanoSeat.{NanoSeat}
 use Rattle.mz_nano.specs.declared.view.Held.{Held}
-use Rattle.mz_nano.specs.SeatLists.{SitsAt, hand_of, space_of, first_of, blocks_of, seats_of}
+use Rattle.mz_nano.specs.SeatLists.{SitsAt, hand_of, space_of, first_of, blocks_of, most_gen_of, seats_of}
 use Rattle.mz_book.specs.Account.{Account}
 use Rattle.mz_zone.specs.Calling.{Seated, AtView}
 
@@ -19,18 +20,20 @@ seat_of (Some nano) (Some seat) = Some (record { nano = nano; seat = seat })
 abbrev pub without_seat : Account → AtView
 without_seat s = record { book = s; nano = None }
 
--- Nano over these pages, so many, and its one seat, with nothing in hand; where there are no pages there is none.
-pub record IsNewSeat (pages : SpanView) (n : ℕ) (nano : Nano) (seat : NanoSeat) : Type 0 where
+-- Nano over these pages, with the profile's blocks and last generation, and its one seat, with nothing in hand; where the profile has no
+-- pages for nano there is none.
+pub record IsNewSeat (pages : SpanView) (p : Profile) (nano : Nano) (seat : NanoSeat) : Type 0 where
   pub sits : SitsAt nano seat
   pub hand : hand_of seat ≡ []
   pub first : first_of nano ≡ pages.first
-  pub blocks : blocks_of nano ≡ n
+  pub blocks : blocks_of nano ≡ p.nano
+  pub most_gen : most_gen_of nano ≡ p.most_gen
   pub space : space_of nano ≡ pages.space
   pub seats : seats_of nano ≡ 1
 
-abbrev pub IsSeatAt : SpanView → ℕ → Option Seated → Type 0
-IsSeatAt pages n None = n ≡ 0
-IsSeatAt pages n (Some x) = IsNewSeat pages n x.nano x.seat
+abbrev pub IsSeatAt : SpanView → Profile → Option Seated → Type 0
+IsSeatAt pages p None = p.nano ≡ 0
+IsSeatAt pages p (Some x) = IsNewSeat pages p x.nano x.seat
 
 -- nano has no other seat
 abbrev pub HasOneSeat : Option Seated → Type 0

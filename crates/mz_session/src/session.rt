@@ -155,7 +155,7 @@ fn open_nano(
 ) -> Result<(Option<Nano>, Option<NanoSeat>), AllocError>
     requires limits { IsWithinLimits p.now }
     requires pages { length pages.bytes ≡ p.now.nano * PAGE }
-    ensures { IfOk result (λ r. IsSeatAt pages p.now.nano (seat_of r.0 r.1)) }
+    ensures { IfOk result (λ r. IsSeatAt pages p.now (seat_of r.0 r.1)) }
 {
     if p.nano == 0 {
         return Ok((None, None));

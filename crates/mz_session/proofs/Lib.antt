@@ -9,6 +9,7 @@ mod OwnerLemmas
 mod KeepLemmas
 mod PlaceLemmas
 mod CallLemmas
+mod OneLemmas
 mod ZoneLemmas
 mod RemakeLemmas
 mod TestLemmas

@@ -3,7 +3,8 @@
 //! A call is made over the session's book, nano and seat. What becomes of these is known where they are taken out of the [`At`] again
 //! that was made of them; this is done once here, for all calls.
 
-ghost use Rattle.std.specs.Prelude.{◌≡◌, ◌*◌, [], Some, IfSome};
+ghost use Rattle.std.specs.Prelude.{◌≡◌, ◌*◌, ◌≤◌, [], Some, IfSome};
+ghost use Rattle.std.specs.Vec.{vec_capacity};
 ghost use Rattle.mz_base.specs.declared.range.TheConstants.{PAGE};
 ghost use Rattle.mz_zone.specs.declared.zone.Zone.{Zone as zones};
 ghost use Rattle.mz_zone.specs.Calling.{AtView, seen, with_seat, CanCall, IsHandedIn, KeepsReferences};
@@ -53,6 +54,35 @@ impl Call for Malloc {
         at: &mut At<PlainBook<Keeper>>,
     ) -> Result<Block, Null> {
         zone.malloc(rt, at, self.n)
+    }
+}
+
+/// A request for `n` bytes, as a batch of one. The block comes by `out`, which is empty and has room for it.
+#[derive(Drop)]
+pub(crate) struct BatchOfOne {
+    pub n: u64,
+    pub out: Vec<Block>,
+}
+
+impl Call for BatchOfOne {
+    type Answer = Result<Block, Null>;
+
+    ghost can = { λ call zone v. CanCall v zone.profile zone.zone 40 × (call.out.items ≡ []) × (1 ≤ vec_capacity call.out) };
+
+    ghost does = { λ call zone v got w. Answers v zone.zone call.n 16 got w };
+
+    fn make<R: Wait>(
+        self,
+        zone: &Zone,
+        rt: &R,
+        at: &mut At<PlainBook<Keeper>>,
+    ) -> Result<Block, Null> {
+        let mut out = self.out;
+        zone.batch_malloc(rt, at, self.n, 1, &mut out)?;
+        let Some(block) = out.pop() else {
+            unreachable!()
+        };
+        Ok(block)
     }
 }
 
@@ -171,6 +201,32 @@ impl Call for Free {
         at: &mut At<PlainBook<Keeper>>,
     ) -> Result<(), NotLiveBlock> {
         zone.free(rt, at, self.block)
+    }
+}
+
+/// Ends a block, as a batch of one. It goes by `all`, which is empty and has room for it.
+#[derive(Drop)]
+pub(crate) struct FreeBatchOfOne {
+    pub block: Block,
+    pub all: Vec<Block>,
+}
+
+impl Call for FreeBatchOfOne {
+    type Answer = Result<(), NotLiveBlock>;
+
+    ghost can = { λ call zone v. CanCall v zone.profile zone.zone 40 × IsHandedIn v call.block × (call.all.items ≡ []) × (1 ≤ vec_capacity call.all) };
+
+    ghost does = { λ call zone v got w. Frees v zone.zone call.block got w };
+
+    fn make<R: Wait>(
+        self,
+        zone: &Zone,
+        rt: &R,
+        at: &mut At<PlainBook<Keeper>>,
+    ) -> Result<(), NotLiveBlock> {
+        let mut all = self.all;
+        all.push_reserved(self.block);
+        zone.batch_free(rt, at, &mut all)
     }
 }
 

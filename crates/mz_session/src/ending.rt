@@ -7,7 +7,7 @@ ghost use Rattle.mz_session.specs.Names.{IsBehind, IsFirstInBatch};
 ghost use Rattle.mz_session.specs.Sessions.{Keeps, IsKept};
 ghost use Rattle.mz_session.specs.Serving.{Ends, EndsOfSize, Serves};
 
-use crate::calling::{Free, FreeOfSize};
+use crate::calling::{Free, FreeBatchOfOne, FreeOfSize};
 use crate::laws::{of_book, of_sessions};
 use crate::session::{MOST_ENTRIES, Session};
 use mz_events::laws::separation::live_bytes_fit_the_space;
@@ -87,7 +87,7 @@ impl Session {
             let Some(block) = self.take(&Name::Batch(BatchName { base: name, index })) else {
                 unreachable!();
             };
-            self.end(rt, block)?;
+            self.end_of_batch(rt, block)?;
             self.is_lawful();
             freed += 1;
         }
@@ -126,6 +126,23 @@ impl Session {
         of_book(&self.book);
         self.book.reserve(MOST_ENTRIES)?;
         let got = self.call(rt, Free { block });
+        of_book(&self.book);
+        match got {
+            Ok(()) => Ok(()),
+            Err(_not_live) => unreachable!(),
+        }
+    }
+
+    // Ends a block of the caller, as a batch of one.
+    fn end_of_batch<R: Wait>(&mut self, rt: &R, block: Block) -> Result<(), AllocError>
+        requires { Keeps self.old (block ∷ []) }
+        ensures { OnOk result (Ends self.old block self.new) }
+    {
+        of_sessions();
+        of_book(&self.book);
+        let all = Vec::with_capacity(*self.parcels.allocator(), 1)?;
+        self.book.reserve(MOST_ENTRIES)?;
+        let got = self.call(rt, FreeBatchOfOne { block, all });
         of_book(&self.book);
         match got {
             Ok(()) => Ok(()),

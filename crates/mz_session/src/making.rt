@@ -7,7 +7,7 @@ ghost use Rattle.mz_session.specs.Names.{block_with, HasSomeOfBatch};
 ghost use Rattle.mz_session.specs.Sessions.{IsKept};
 ghost use Rattle.mz_session.specs.Serving.{Makes, MakesCleared, MakesAligned, Serves};
 
-use crate::calling::{Calloc, Malloc, Memalign, Valloc};
+use crate::calling::{BatchOfOne, Calloc, Malloc, Memalign, Valloc};
 use crate::laws::{of_book, of_sessions};
 use crate::session::{MOST_ENTRIES, Session};
 use mz_rack::Null;
@@ -117,7 +117,7 @@ impl Session {
             let Some(index) = BatchIndex::new(got) else {
                 unreachable!();
             };
-            let made = self.make(rt, n)?;
+            let made = self.make_of_batch(rt, n)?;
             self.is_lawful();
             let Ok(block) = made else {
                 return Ok(Answer::Got { n: got });
@@ -153,6 +153,22 @@ impl Session {
         of_sessions();
         self.book.reserve(MOST_ENTRIES)?;
         let got = self.call(rt, Malloc { n });
+        of_book(&self.book);
+        if let Ok(block) = &got {
+            block.keeps_its_place();
+        }
+        Ok(got)
+    }
+
+    // A block of `n` bytes, as a batch of one.
+    fn make_of_batch<R: Wait>(&mut self, rt: &R, n: u64) -> Result<Result<Block, Null>, AllocError>
+        requires { IsKept self.old }
+        ensures { IfOk result (λ got. Makes self.old n 16 got self.new) }
+    {
+        of_sessions();
+        let out = Vec::with_capacity(*self.parcels.allocator(), 1)?;
+        self.book.reserve(MOST_ENTRIES)?;
+        let got = self.call(rt, BatchOfOne { n, out });
         of_book(&self.book);
         if let Ok(block) = &got {
             block.keeps_its_place();

@@ -12,13 +12,13 @@ returns-then-holds_some g c = batch-refused c.args.self.now c.args.name c.args.n
 pub loop-got-init : goal.loop-got-init
 loop-got-init g c = record { begun = batch-first c.args.self.now c.args.name c.args.n c.args.count c.requires c.if-holds_some.ensures }
 
-pub make-requires : goal.make-requires
-make-requires g c = c.loop-got.invariant.begun.kept
+pub make_of_batch-requires : goal.make_of_batch-requires
+make_of_batch-requires g c = c.loop-got.invariant.begun.kept
 
 pub returns-in_default-made : goal.returns-in_default-made
 returns-in_default-made g c =
     let t : SessionView = c.loop-got.self in
-    let u : SessionView = c.make.new.self in
+    let u : SessionView = c.make_of_batch.new.self in
     let more = c.loop-got-test.true in
     let number = c.number.ensures.value in
     let makes : Makes t c.args.n 16 (Err c.in_default-made.field-0) u = subst (λ o. Makes t c.args.n 16 o u) c.in_default-made.is c.in_ok-made.ensures in
@@ -28,13 +28,13 @@ returns-in_default-made g c =
 pub hold-requires-clause-kept : goal.hold-requires-clause-kept
 hold-requires-clause-kept g c =
     let t : SessionView = c.loop-got.self in
-    let makes : Makes t c.args.n 16 (Ok c.in-Ok.block) c.make.new.self = subst (λ o. Makes t c.args.n 16 o c.make.new.self) c.in-Ok.is c.in_ok-made.ensures in
+    let makes : Makes t c.args.n 16 (Ok c.in-Ok.block) c.make_of_batch.new.self = subst (λ o. Makes t c.args.n 16 o c.make_of_batch.new.self) c.in-Ok.is c.in_ok-made.ensures in
     makes.keeps
 
 pub hold-requires-clause-free : goal.hold-requires-clause-free
 hold-requires-clause-free g c =
     let t : SessionView = c.loop-got.self in
-    let u : SessionView = c.make.new.self in
+    let u : SessionView = c.make_of_batch.new.self in
     let more = c.loop-got-test.true in
     let number = c.number.ensures.value in
     let makes : Makes t c.args.n 16 (Ok c.in-Ok.block) u = subst (λ o. Makes t c.args.n 16 o u) c.in-Ok.is c.in_ok-made.ensures in
@@ -45,7 +45,7 @@ hold-requires-clause-free g c =
 pub loop-got-preserved : goal.loop-got-preserved
 loop-got-preserved g c =
     let t : SessionView = c.loop-got.self in
-    let u : SessionView = c.make.new.self in
+    let u : SessionView = c.make_of_batch.new.self in
     let w : SessionView = c.hold.new.self in
     let more = c.loop-got-test.true in
     let number = c.number.ensures.value in

@@ -12,7 +12,7 @@ loop-index-preserved g c =
     let first = c.in-Some.ensures in
     record {
       begun = unbatch-on c.args.self.now c.loop-index.self c.args.name c.loop-index.freed c.in-Some.index c.loop-index.invariant.begun first.first first.limit
-          c.of_sessions.ensures c.take.new.self c.end.new.self c.in-Some-take.block c.in-Some-take.ensures c.in_ok-end.ensures c.is_lawful.ensures;
+          c.of_sessions.ensures c.take.new.self c.end_of_batch.new.self c.in-Some-take.block c.in-Some-take.ensures c.in_ok-end_of_batch.ensures c.is_lawful.ensures;
     }
 
 pub returns : goal.returns

@@ -119,6 +119,49 @@ fn a_small_block(rt: HostRuntime) -> Result<(), Fail> {
 }
 
 #[test]
+fn a_small_block_moves_for_0_bytes(rt: HostRuntime) -> Result<(), Fail> {
+    let steps = [
+        (Step::Make(Request::Malloc(2_000)), Answer::Block(0, 2_048)),
+        (Step::Realloc(0), Answer::Block(8_388_608, 16)),
+    ];
+    let events = [
+        full(SMALL, 2_048),
+        full(SMALL_DEPOT, 2_048),
+        take(SMALL, 0, 512),
+        new(SMALL, 0, 2_048),
+        full(TINY, 16),
+        full(TINY_DEPOT, 16),
+        take(TINY, 512, 64),
+        new(TINY, 8_388_608, 16),
+        end(SMALL, 0, 2_048),
+    ];
+    without_nano(&rt, rt.alloc(), 640, &steps, &events)
+}
+
+#[test]
+fn a_small_block_comes_back_where_no_pages_are_free(rt: HostRuntime) -> Result<(), Fail> {
+    let steps = [
+        (Step::Make(Request::Malloc(2_000)), Answer::Block(0, 2_048)),
+        (Step::Realloc(32_769), Answer::Refused(1)),
+        (Step::Realloc(0), Answer::Refused(1)),
+        (Step::FreeOfSize(2_048), Answer::Freed),
+    ];
+    let events = [
+        full(SMALL, 2_048),
+        full(SMALL_DEPOT, 2_048),
+        take(SMALL, 0, 512),
+        new(SMALL, 0, 2_048),
+        full(LARGE, 3),
+        dry(3, 1),
+        full(TINY, 16),
+        full(TINY_DEPOT, 16),
+        dry(64, 64),
+        end(SMALL, 0, 2_048),
+    ];
+    without_nano(&rt, rt.alloc(), 512, &steps, &events)
+}
+
+#[test]
 fn a_large_block(rt: HostRuntime) -> Result<(), Fail> {
     let steps = [
         (

@@ -1,7 +1,9 @@
 ghost use Rattle.std.specs.Prelude.{◌≡◌, ◌<◌, ◌≤◌, List, [], ◌∷◌, Some, vec_len, length, replicate, IfOk, IfSome, IsTrue};
 ghost use Rattle.mz_base.specs.Limits.{IsWithinLimits, IsFrom};
 ghost use Rattle.mz_base.specs.Space.{block_at, same_block};
+ghost use Rattle.mz_book.specs.Account.{HoldsNothing};
 ghost use Rattle.mz_events.specs.declared.entry.Entry.{Entry as entry};
+ghost use Rattle.mz_events.specs.Hands.{own};
 ghost use Rattle.mz_zone.specs.Blocks.{BlockView, block_of, of_slot, with_block_bytes};
 ghost use Rattle.mz_zone.specs.Batches.{AreOther, AreHandedIn};
 ghost use Rattle.mz_zone.specs.Calling.{seen, AtView, CanCall, Goes, IsHandedIn};
@@ -672,8 +674,8 @@ fn without_nano<R: Wait + Abort>(
     Ok(())
 }
 
-// Does the steps in a space of so many pages, of which the last two are nano's. The first of these has a class
-// already, where one is given. Answers how often a slot was popped, and how often there was none.
+// Does the steps in a space of so many pages, of which the last two are nano's. Another caller gave the first of these
+// a class already, where one is given. Answers how often a slot was popped, and how often there was none.
 fn with_nano<R: Wait + Abort>(
     rt: &R,
     alloc: Global,
@@ -706,14 +708,20 @@ fn with_nano<R: Wait + Abort>(
     Ok((seat.tries(), seat.misses()))
 }
 
-// Gives nano's first page a class, where there is one.
+// Another caller gives nano's first page a class, where there is one.
 fn settle_first(book: &mut PlainBook<Keeper>, class: Option<u64>)
     requires pages { 1 ≤ (⟦<PlainBook<Keeper> as Book<Keeper>>⟧.account book.old).profile.nano }
     requires class { IfSome class (λ c. (1 ≤ c) × (c ≤ 16)) }
+    requires callers { 2 ≤ (⟦<PlainBook<Keeper> as Book<Keeper>>⟧.account book.old).profile.callers }
+    requires caller { (⟦<PlainBook<Keeper> as Book<Keeper>>⟧.account book.old).caller ≡ 0 }
+    requires noted { (⟦<PlainBook<Keeper> as Book<Keeper>>⟧.account book.old).noted ≡ own 0 (⟦<PlainBook<Keeper> as Book<Keeper>>⟧.account book.old).seen }
+    requires nothing_held { HoldsNothing (⟦<PlainBook<Keeper> as Book<Keeper>>⟧.account book.old) }
     ensures { IsOpening (⟦<PlainBook<Keeper> as Book<Keeper>>⟧.account book.old) (⟦<PlainBook<Keeper> as Book<Keeper>>⟧.account book.new) }
 {
     if let Some(class) = class {
+        book.act_as(1);
         let _ = book.settle(0, class);
+        book.act_as(0);
     }
 }
 

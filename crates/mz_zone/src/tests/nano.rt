@@ -18,7 +18,7 @@ use std::alloc::AllocError;
 use std::sync::Wait;
 use std::test::Fail;
 
-// Nano's pages are 64 and 65. The page was noted for class 5 for the first, of which nano makes one of class 4: its slot is
+// Nano's pages are 64 and 65. Another caller settled the first for class 5, and nano makes it one of class 4: its slot is
 // popped and goes back, each time anew.
 #[test]
 fn a_slot_of_another_class_goes_back(rt: HostRuntime) -> Result<(), Fail> {

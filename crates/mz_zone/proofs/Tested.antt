@@ -23,7 +23,6 @@ use Rattle.mz_nano.specs.declared.seat.NanoSeat.{NanoSeat}
 use Rattle.mz_nano.specs.SeatLists.{AllNew, SitsAt, first_of, blocks_of, space_of, hand_of}
 use Rattle.mz_nano.specs.SlotViews.{SlotView}
 use Rattle.mz_nano.specs.Lists.{In}
-use Rattle.mz_rack.specs.declared.lot.Null.{Null}
 use Rattle.mz_rack.specs.Serving.{CanServe}
 use Rattle.mz_zone.specs.declared.zone.Zone.{Zone}
 use Rattle.mz_zone.specs.Blocks.{BlockView, of_slot, block_of, with_block_bytes}

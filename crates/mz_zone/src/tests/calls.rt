@@ -1,6 +1,7 @@
+use super::steps::{Answer, Request, Step};
 use super::{
-    Answer, LARGE, Request, SMALL, SMALL_DEPOT, Step, TINY, TINY_DEPOT, dry, end, full, new,
-    new_at, profile, take, with_nano, without_nano,
+    LARGE, SMALL, SMALL_DEPOT, TINY, TINY_DEPOT, dry, end, full, new, new_at, profile, take,
+    with_nano, without_nano,
 };
 use crate::Zone;
 use mz_events::Place;

@@ -4,9 +4,8 @@ ghost use Rattle.mz_nano.specs.SeatLists.{SitsAt};
 ghost use Rattle.mz_zone.specs.Calling.{seen, with_seat, KeepsReferences};
 ghost use Rattle.mz_zone.specs.Tested.{IsReady};
 
-use super::{
-    Answer, Request, Step, TINY, TINY_DEPOT, end, full, new, profile, see_events, take, with_nano,
-};
+use super::steps::{Answer, Request, Step};
+use super::{TINY, TINY_DEPOT, end, full, new, profile, see_events, take, with_nano};
 use crate::laws::of_zones;
 use crate::{At, Zone};
 use mz_book::{Book, PlainBook};

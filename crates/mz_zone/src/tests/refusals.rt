@@ -1,6 +1,5 @@
-use super::{
-    Answer, LARGE, Request, Step, TINY, TINY_DEPOT, dry, end, full, new, take, without_nano,
-};
+use super::steps::{Answer, Request, Step};
+use super::{LARGE, TINY, TINY_DEPOT, dry, end, full, new, take, without_nano};
 use std::test::Fail;
 
 // Where one could be both, the request that has no number or no right alignment is refused first.

@@ -4,7 +4,8 @@ ghost use Rattle.mz_base.specs.Limits.{IsWithinLimits};
 ghost use Rattle.mz_zone.specs.Calling.{seen};
 ghost use Rattle.mz_zone.specs.Tested.{tested, IsLeft, HoldsFirst, HasOpened};
 
-use super::{Answer, Request, Step, TINY, TINY_DEPOT, end, full, go, new, see_events, take};
+use super::steps::{Answer, Request, Step, go};
+use super::{TINY, TINY_DEPOT, end, full, new, see_events, take};
 use crate::{At, Block, Zone};
 use mz_base::Profile;
 use mz_book::{Book, PlainBook};

@@ -1,5 +1,5 @@
 use Rattle.mz_zone.proofs.Tested.{can_at, ready_then}
-use Rattle.mz_zone.proofs.tests.put_at_hand.Goals as goal
+use Rattle.mz_zone.proofs.tests.steps.put_at_hand.Goals as goal
 
 pub make-requires : goal.make-requires
 make-requires g c = can_at _ c.args.zone.now 40 c.in_ok-make_room.ensures.ready

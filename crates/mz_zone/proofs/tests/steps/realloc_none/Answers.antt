@@ -5,7 +5,7 @@ use Rattle.std.specs.Prelude.{Err, None}
 use Rattle.mz_zone.specs.Calling.{AtView, seen}
 use Rattle.mz_zone.proofs.Tested.{ready_then, handed}
 use Rattle.mz_zone.proofs.StillHandedIn.{realloc_goes}
-use Rattle.mz_zone.proofs.tests.realloc_none.Goals as goal
+use Rattle.mz_zone.proofs.tests.steps.realloc_none.Goals as goal
 
 pub returns-in-Ok : goal.returns-in-Ok
 returns-in-Ok g c = record {

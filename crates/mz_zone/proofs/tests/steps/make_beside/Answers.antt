@@ -1,6 +1,6 @@
 use Rattle.mz_zone.proofs.Tested.{handed, ready_then}
 use Rattle.mz_zone.proofs.Moved.{still_handed}
-use Rattle.mz_zone.proofs.tests.make_beside.Goals as goal
+use Rattle.mz_zone.proofs.tests.steps.make_beside.Goals as goal
 
 pub returns-in-Ok-clause-made : goal.returns-in-Ok-clause-made
 returns-in-Ok-clause-made g c = handed c.of_zones.ensures _ _ _ _ _ _ c.in-Ok.ensures.answers

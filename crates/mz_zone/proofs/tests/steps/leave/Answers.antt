@@ -1,6 +1,6 @@
 use Rattle.mz_zone.proofs.Tested.{ready_then, some_still}
 use Rattle.mz_zone.proofs.Moved.{still_handed}
-use Rattle.mz_zone.proofs.tests.leave.Goals as goal
+use Rattle.mz_zone.proofs.tests.steps.leave.Goals as goal
 
 pub returns-in-Ok : goal.returns-in-Ok
 returns-in-Ok g c = record {

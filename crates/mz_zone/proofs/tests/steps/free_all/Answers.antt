@@ -2,7 +2,7 @@ use Rattle.std.proofs.Common.{◌*◌, vec_len, arith}
 use Rattle.mz_zone.proofs.Freed.{can_fewer}
 use Rattle.mz_zone.proofs.Tested.{can_at, ready_then}
 use Rattle.mz_zone.proofs.StillHandedIn.{all_with}
-use Rattle.mz_zone.proofs.tests.free_all.Goals as goal
+use Rattle.mz_zone.proofs.tests.steps.free_all.Goals as goal
 
 pub batch_free-requires-clause-can : goal.batch_free-requires-clause-can
 batch_free-requires-clause-can g c =

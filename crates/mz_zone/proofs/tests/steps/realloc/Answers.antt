@@ -9,7 +9,7 @@ use Rattle.mz_zone.specs.Blocks.{block_of}
 use Rattle.mz_zone.specs.Calling.{AtView, IsHandedIn, seen}
 use Rattle.mz_zone.proofs.Tested.{ready_then}
 use Rattle.mz_zone.proofs.StillHandedIn.{realloc_goes, resized_handed, some_back}
-use Rattle.mz_zone.proofs.tests.realloc.Goals as goal
+use Rattle.mz_zone.proofs.tests.steps.realloc.Goals as goal
 
 pub returns-in-Err : goal.returns-in-Err
 returns-in-Err g c =

@@ -1,5 +1,5 @@
 use Rattle.mz_zone.proofs.Tested.{handed, calloc_goes, memalign_goes}
-use Rattle.mz_zone.proofs.tests.make.Goals as goal
+use Rattle.mz_zone.proofs.tests.steps.make.Goals as goal
 
 pub returns-in-Ok-clause-made : goal.returns-in-Ok-clause-made
 returns-in-Ok-clause-made g c = handed c.of_zones.ensures _ _ _ _ _ _ c.in-Ok.ensures.answers

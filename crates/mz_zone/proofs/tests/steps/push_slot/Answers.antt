@@ -1,5 +1,5 @@
 use Rattle.mz_zone.proofs.Tested.{can_at, may_push, ready_pushed}
-use Rattle.mz_zone.proofs.tests.push_slot.Goals as goal
+use Rattle.mz_zone.proofs.tests.steps.push_slot.Goals as goal
 
 pub put_back-requires : goal.put_back-requires
 put_back-requires g c =

@@ -1,5 +1,5 @@
 use Rattle.mz_zone.proofs.Tested.{can_at, ready_then}
-use Rattle.mz_zone.proofs.tests.batch.Goals as goal
+use Rattle.mz_zone.proofs.tests.steps.batch.Goals as goal
 
 pub batch_malloc-requires-clause-can : goal.batch_malloc-requires-clause-can
 batch_malloc-requires-clause-can g c = can_at _ c.args.zone.now _ c.in_ok-make_room.ensures.ready

@@ -30,15 +30,17 @@ use Rattle.mz_zone.specs.declared.fault.CallocFault.{CallocFault}
 use Rattle.mz_zone.specs.declared.fault.CallocFault.TheVariants as calloc
 use Rattle.mz_zone.specs.declared.fault.AlignFault.{AlignFault}
 use Rattle.mz_zone.specs.declared.fault.AlignFault.TheVariants as align
+use Rattle.mz_zone.specs.declared.fault.NotLiveBlock.{NotLiveBlock}
 use Rattle.mz_zone.specs.declared.fault.SizeFault.{SizeFault}
 use Rattle.mz_zone.specs.declared.fault.SizeFault.TheVariants as size
-use Rattle.mz_zone.specs.Blocks.{BlockView, IsAtItsSlot, block_of, slot_added, slot_dropped}
+use Rattle.mz_zone.specs.Blocks.{BlockView, block_of, slot_added, slot_dropped}
 use Rattle.mz_zone.specs.Calling.{Seated, AtView, IsSeatedAt, CanCall, HasSlot, IsHandedIn, apart_from_nano, StaysSeated, Goes, hand_in}
 use Rattle.mz_zone.specs.Answering.{Answers, Callocs, Memaligns, block_got, hand_got}
 use Rattle.mz_zone.specs.Freeing.{Frees, FreesOfSize}
 use Rattle.mz_session.specs.Seats.{HasOneSeat}
 use Rattle.mz_session.specs.SessionLaws.{SessionLaws}
 use Rattle.mz_session.specs.Sessions.{SessionView, IsForOne, IsOurs, views_kept, blocks_kept, Keeps, IsKept}
+use Rattle.mz_session.specs.Asking.{HasMoreRoom, roomier, moved, CanAsk, HasAsked, IsPlacedIf}
 use Rattle.mz_session.specs.Serving.{Notes, Makes, MakesCleared, MakesAligned, Ends, EndsOfSize, Rests, view_got}
 use Rattle.mz_session.proofs.CountLemmas.{same-self, same-is, one-true, one-false, count-cons, count-append, count-gone, count-others, hand-counted}
 use Rattle.mz_session.proofs.TicketLemmas.{CountsFrom, counts-indices, counts-parts, rising-behind, above-counted}
@@ -46,17 +48,6 @@ use Rattle.mz_session.proofs.OwnerLemmas.{are_mine, mine-through}
 use Rattle.mz_session.proofs.KeepLemmas.{loose-counted, there-first, kept-more, kept-fewer, kept-loose, kept-beside}
 use Rattle.mz_session.proofs.PlaceLemmas.{in-hand, other-slot}
 use Rattle.mz_session.proofs.TestLemmas.{alignment-tested, alignment-refused, wrong-size-tested, right-size-tested}
-
--- the book has room for more entries
-abbrev pub HasMoreRoom : Account → Account → Type 0
-HasMoreRoom s b = b ≡ record s { spare = b.spare }
-
--- the session with another book, or with all that a call is made with as it is then
-abbrev pub roomier : SessionView → Account → AtView
-roomier s b = record { book = b; nano = s.at.nano }
-
-abbrev pub moved : SessionView → AtView → SessionView
-moved s w = record { zone = s.zone; at = w; blocks = s.blocks; parcels = s.parcels }
 
 -- what a call of the book adds
 
@@ -245,11 +236,6 @@ module _ (L : SessionLaws) (s : SessionView) (loose : List BlockView) (kept : Ke
 
 -- a request was made
 
--- a block of nano that came is where its slot is
-abbrev pub IsPlacedIf : {E : Type 0} → Result BlockView E → Type 0
-IsPlacedIf (Ok x) = IsAtItsSlot x
-IsPlacedIf (Err e) = Unit {0}
-
 pub makes :
     (L : SessionLaws) (s : SessionView) → IsKept s → (b : Account) → HasMoreRoom s.at.book b → (n al : ℕ) (got : Result BlockView Null) (w : AtView)
     → Answers (roomier s b) s.zone.zone n al got w → IsOrderly w.book → IsPlacedIf got → Makes s n al got (moved s w)
@@ -425,3 +411,49 @@ ends-of-size L s x kept before b room n (Err (size.WrongSize c held)) w freed or
   freed.3,
   subst (λ v. Rests s (x ∷ []) (moved s v)) (sym freed.4) (rests s (x ∷ []) kept b room),
 )
+
+-- what a session asks for, and what it keeps then
+
+pub can-ask : (s : SessionView) (loose : List BlockView) → Keeps s loose → CanAsk s 40 (λ v. CanCall v s.zone.profile s.zone.zone 40)
+can-ask s loose kept = λ orderly b room many. can-call s loose kept b room 40 many
+
+pub can-hand-in : (L : SessionLaws) (s : SessionView) (x : BlockView) → Keeps s (x ∷ []) → CanAsk s 40 (λ v. CanCall v s.zone.profile s.zone.zone 40 × IsHandedIn v x)
+can-hand-in L s x kept = λ orderly b room many. (can-call s (x ∷ []) kept b room 40 many, handed-in L s x [] kept orderly b room)
+
+pub asked-makes :
+    (L : SessionLaws) (s t : SessionView) → IsKept s → (n al : ℕ) (got : Result BlockView Null) → HasAsked s (λ v o w. Answers v s.zone.zone n al o w) got t → IsPlacedIf got
+    → Makes s n al got t
+asked-makes L s t kept n al got asked placed =
+    subst (Makes s n al got) (sym asked.keeps) (makes L s kept asked.book asked.room n al got t.at asked.does asked.after placed)
+
+pub asked-cleared :
+    (L : SessionLaws) (s t : SessionView) → IsKept s → (n m : ℕ) (got : Result BlockView CallocFault) → HasAsked s (λ v o w. Callocs v s.zone.zone n m o w) got t → IsPlacedIf got
+    → MakesCleared s n m got t
+asked-cleared L s t kept n m got asked placed =
+    subst (MakesCleared s n m got) (sym asked.keeps) (makes-cleared L s kept asked.book asked.room n m got t.at asked.does asked.after placed)
+
+pub asked-aligned :
+    (L : SessionLaws) (s t : SessionView) → IsKept s → (al n : ℕ) (got : Result BlockView AlignFault) → HasAsked s (λ v o w. Memaligns v s.zone.zone al n o w) got t → IsPlacedIf got
+    → MakesAligned s al n got t
+asked-aligned L s t kept al n got asked placed =
+    subst (MakesAligned s al n got) (sym asked.keeps) (makes-aligned L s kept asked.book asked.room al n got t.at asked.does asked.after placed)
+
+pub asked-ends :
+    (L : SessionLaws) (s t : SessionView) (x : BlockView) → Keeps s (x ∷ []) → (got : Result (Unit {0}) NotLiveBlock) (u : Unit {0}) → got ≡ Ok u
+    → HasAsked s (λ v o w. Frees v s.zone.zone x o w) got t → Ends s x t
+asked-ends L s t x kept got u is asked =
+    let freed : Frees (roomier s asked.book) s.zone.zone x (Ok u) t.at = subst (λ o. Frees (roomier s asked.book) s.zone.zone x o t.at) is asked.does in
+    subst (Ends s x) (sym asked.keeps) (ends L s x kept asked.before asked.book asked.room t.at u freed asked.after)
+
+pub asked-denied :
+    (s t : SessionView) (x : BlockView) → Keeps s (x ∷ []) → (got : Result (Unit {0}) NotLiveBlock) (e : NotLiveBlock) → got ≡ Err e
+    → HasAsked s (λ v o w. Frees v s.zone.zone x o w) got t → ⊥
+asked-denied s t x kept got e is asked =
+    let freed : Frees (roomier s asked.book) s.zone.zone x (Err e) t.at = subst (λ o. Frees (roomier s asked.book) s.zone.zone x o t.at) is asked.does in
+    freed.freed.0 (not-denied s x [] kept)
+
+pub asked-ends-of-size :
+    (L : SessionLaws) (s t : SessionView) (x : BlockView) → Keeps s (x ∷ []) → (n : ℕ) (got : Result (Unit {0}) SizeFault) → HasAsked s (λ v o w. FreesOfSize v s.zone.zone x n o w) got t
+    → EndsOfSize s x n got t
+asked-ends-of-size L s t x kept n got asked =
+    subst (EndsOfSize s x n got) (sym asked.keeps) (ends-of-size L s x kept asked.before asked.book asked.room n got t.at asked.does asked.after)

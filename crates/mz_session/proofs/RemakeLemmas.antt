@@ -1,5 +1,5 @@
 -- What a call of the zone that gives a block another size leaves of what a session keeps.
-use Rattle.std.proofs.Common.{◌≡◌, ℕ, ◌+◌, ◌*◌, ◌≤◌, ◌==◌, Bool, true, false, List, [], ◌∷◌, ◌++◌, length, Option, Some, None, Ok, Err, refl, ap, sym, subst, ◌∙◌, inl, inr, arith, eq-eqb}
+use Rattle.std.proofs.Common.{◌≡◌, ℕ, ◌+◌, ◌*◌, ◌≤◌, ◌==◌, Bool, true, false, List, [], ◌∷◌, ◌++◌, length, Option, Some, None, Result, Ok, Err, refl, ap, sym, subst, ◌∙◌, inl, inr, arith, eq-eqb}
 use Rattle.std.specs.Prelude.{map, IsTrue, Contains, if◌then◌else◌}
 use Rattle.std.proofs.lemmas.Bool.{cases_Bool, false≢true, eqb-true}
 use Rattle.std.proofs.lemmas.List.{append-nil}
@@ -24,9 +24,12 @@ use Rattle.mz_book.specs.Account.{Account, IsOrderly, hand}
 use Rattle.mz_book.specs.Living.{times}
 use Rattle.mz_rack.specs.declared.lot.Null.{Null}
 use Rattle.mz_nano.specs.Lists.{In}
+use Rattle.mz_zone.specs.declared.fault.NotLiveBlock.{NotLiveBlock}
+use Rattle.mz_zone.specs.declared.fault.ReallocFault.{ReallocFault}
+use Rattle.mz_zone.specs.declared.fault.ReallocFault.TheVariants as fault
 use Rattle.mz_zone.specs.Blocks.{BlockView, IsAtItsSlot, block_of, at_its_place, slot_added}
 use Rattle.mz_zone.specs.Calling.{AtView, Goes, hand_in}
-use Rattle.mz_zone.specs.Moving.{Stays, MovesOn, Resizes, known}
+use Rattle.mz_zone.specs.Moving.{Reallocs, Stays, MovesOn, Resizes, known}
 use Rattle.mz_session.specs.SessionLaws.{SessionLaws}
 use Rattle.mz_session.specs.Sessions.{SessionView, IsOurs, views_kept, blocks_kept, Keeps}
 use Rattle.mz_session.specs.Serving.{Remakes}
@@ -34,7 +37,8 @@ use Rattle.mz_session.proofs.CountLemmas.{some-is, same-self, same-is, one-true,
 use Rattle.mz_session.proofs.KeepLemmas.{loose-counted, there-first, there-behind, kept-more, kept-fewer, kept-loose, only-loose, kept-beside}
 use Rattle.mz_session.proofs.PlaceLemmas.{other-slot}
 use Rattle.mz_session.proofs.ZoneLemmas.{zone-kept}
-use Rattle.mz_session.proofs.CallLemmas.{HasMoreRoom, roomier, moved, notes-call, more-seen, above-before, same-profile, hand-through-mine, ours-stays, keeps-moved, in-added, in-dropped, symmetric}
+use Rattle.mz_session.specs.Asking.{HasMoreRoom, roomier, moved, HasAsked}
+use Rattle.mz_session.proofs.CallLemmas.{notes-call, more-seen, above-before, same-profile, hand-through-mine, ours-stays, keeps-moved, in-added, in-dropped, symmetric, not-denied}
 
 -- how often a block is among some of which one has become another
 
@@ -334,3 +338,30 @@ module _ (L : SessionLaws) (s : SessionView) (x : BlockView) (kept : Keeps s (x 
   pub remade : (d : BlockView) → Resizes (roomier s b) s.zone.zone x n (Ok d) w → IsAtItsSlot d → Remakes s x n (Some d) (moved s w)
   remade d (inl stays) placed = stays-remade d stays placed
   remade d (inr on) placed = moves-remade d on placed
+
+-- what a session keeps that asked for another size
+
+pub asked-remade :
+    (L : SessionLaws) (s t : SessionView) (x : BlockView) → Keeps s (x ∷ []) → (n : ℕ) (got : Result BlockView ReallocFault) (d : BlockView) → got ≡ Ok d
+    → HasAsked s (λ v o w. Reallocs v s.zone.zone (Some x) n o w) got t → IsAtItsSlot d → Remakes s x n (Some d) t
+asked-remade L s t x kept n got d is asked placed =
+    let done : Reallocs (roomier s asked.book) s.zone.zone (Some x) n (Ok d) t.at = subst (λ o. Reallocs (roomier s asked.book) s.zone.zone (Some x) n o t.at) is asked.does in
+    subst (Remakes s x n (Some d)) (sym asked.keeps) (remade L s x kept asked.before asked.book asked.room n t.at asked.after d done.1 placed)
+
+pub asked-null :
+    (L : SessionLaws) (s t : SessionView) (x : BlockView) → Keeps s (x ∷ []) → (n : ℕ) (got : Result BlockView ReallocFault) (o : Option BlockView) (e : Null) → got ≡ Err (fault.Null o e)
+    → HasAsked s (λ v o w. Reallocs v s.zone.zone (Some x) n o w) got t → (o ≡ Some x) × Remakes s x n None t
+asked-null L s t x kept n got o e is asked =
+    let done : Reallocs (roomier s asked.book) s.zone.zone (Some x) n (Err (fault.Null o e)) t.at =
+    subst (λ y. Reallocs (roomier s asked.book) s.zone.zone (Some x) n y t.at) is asked.does
+    in
+    (done.1, subst (Remakes s x n None) (sym asked.keeps) (not-remade L s x kept asked.before asked.book asked.room n t.at asked.after e done.2))
+
+pub asked-refused :
+    (s t : SessionView) (x : BlockView) → Keeps s (x ∷ []) → (n : ℕ) (got : Result BlockView ReallocFault) (e : NotLiveBlock) → got ≡ Err (fault.NotLive e)
+    → HasAsked s (λ v o w. Reallocs v s.zone.zone (Some x) n o w) got t → ⊥
+asked-refused s t x kept n got e is asked =
+    let done : Reallocs (roomier s asked.book) s.zone.zone (Some x) n (Err (fault.NotLive e)) t.at =
+    subst (λ y. Reallocs (roomier s asked.book) s.zone.zone (Some x) n y t.at) is asked.does
+    in
+    done.freed.0 (not-denied s x [] kept)

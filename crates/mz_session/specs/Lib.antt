@@ -2,6 +2,7 @@ pub mod Names
 pub mod Changes
 pub mod Seats
 pub mod Sessions
+pub mod Asking
 pub mod Serving
 pub mod Giving
 pub mod SessionLaws

@@ -3,7 +3,7 @@
 //! A call is made over the session's book, nano and seat. What becomes of these is known where they are taken out of the [`At`] again
 //! that was made of them; this is done once here, for all calls.
 
-ghost use Rattle.std.specs.Prelude.{◌≡◌, ◌*◌, ◌≤◌, [], Some, IfSome};
+ghost use Rattle.std.specs.Prelude.{◌≡◌, ◌*◌, ◌≤◌, [], Some, IfOk, IfSome};
 ghost use Rattle.std.specs.Vec.{vec_capacity};
 ghost use Rattle.mz_base.specs.declared.range.TheConstants.{PAGE};
 ghost use Rattle.mz_zone.specs.declared.zone.Zone.{Zone as zones};
@@ -12,13 +12,19 @@ ghost use Rattle.mz_zone.specs.Answering.{Answers, Callocs, Memaligns};
 ghost use Rattle.mz_zone.specs.Freeing.{Frees, FreesOfSize};
 ghost use Rattle.mz_zone.specs.Moving.{Reallocs};
 ghost use Rattle.mz_session.specs.Seats.{without_seat};
+ghost use Rattle.mz_session.specs.Asking.{CanAsk, HasAsked, IsPlacedIf};
 
+use crate::laws::of_book;
 use crate::session::Session;
 use mz_book::{Book, PlainBook};
 use mz_nano::{Nano, NanoSeat};
 use mz_rack::{Keeper, Null};
 use mz_zone::{AlignFault, At, Block, CallocFault, NotLiveBlock, ReallocFault, SizeFault, Zone};
+use std::alloc::AllocError;
 use std::sync::Wait;
+
+/// The most entries that one call of a zone adds.
+const MOST_ENTRIES: u64 = 40;
 
 /// A call of a zone, with what it is given.
 pub(crate) trait Call {
@@ -255,8 +261,24 @@ impl Call for FreeOfSize {
 }
 
 impl Session {
+    // Makes a call of the zone, with room in the book for what it notes.
+    pub(crate) fn ask<C: Call + Drop, R: Wait>(
+        &mut self,
+        rt: &R,
+        call: C,
+    ) -> Result<C::Answer, AllocError>
+        requires { CanAsk self.old 40 (C.can call self.old.zone) }
+        ensures { IfOk result (λ got. HasAsked self.old (C.does call self.old.zone) got self.new) }
+    {
+        of_book(&self.book);
+        self.book.reserve(MOST_ENTRIES)?;
+        let got = self.call(rt, call);
+        of_book(&self.book);
+        Ok(got)
+    }
+
     // Makes a call of the zone.
-    pub(crate) fn call<C: Call, R: Wait>(&mut self, rt: &R, call: C) -> C::Answer
+    fn call<C: Call, R: Wait>(&mut self, rt: &R, call: C) -> C::Answer
         requires { C.can call self.old.zone self.old.at }
         ensures does { C.does call self.old.zone self.old.at result self.new.at }
         ensures keeps { self.new ≡ record self.old { at = self.new.at } }
@@ -311,6 +333,15 @@ fn call_unseated<C: Call, R: Wait>(
         nano: _nano,
     } = at;
     answer
+}
+
+/// The block that was answered, where one was, is where its slot is.
+pub(crate) fn is_placed<E>(got: &Result<Block, E>)
+    ensures { IsPlacedIf got.now }
+{
+    if let Ok(block) = got {
+        block.keeps_its_place();
+    }
 }
 
 // What was lent to a call ends as it is.

@@ -9,7 +9,7 @@ ghost use Rattle.mz_session.specs.Serving.{Ends, EndsOfSize, Serves};
 
 use crate::calling::{Free, FreeBatchOfOne, FreeOfSize};
 use crate::laws::{of_book, of_sessions};
-use crate::session::{MOST_ENTRIES, Session};
+use crate::session::Session;
 use mz_events::laws::separation::live_bytes_fit_the_space;
 use mz_trace::Answer;
 use mz_words::{BaseName, BatchIndex, BatchName, BlockName, Name};
@@ -123,11 +123,7 @@ impl Session {
         ensures { OnOk result (Ends self.old block self.new) }
     {
         of_sessions();
-        of_book(&self.book);
-        self.book.reserve(MOST_ENTRIES)?;
-        let got = self.call(rt, Free { block });
-        of_book(&self.book);
-        match got {
+        match self.ask(rt, Free { block })? {
             Ok(()) => Ok(()),
             Err(_not_live) => unreachable!(),
         }
@@ -139,12 +135,8 @@ impl Session {
         ensures { OnOk result (Ends self.old block self.new) }
     {
         of_sessions();
-        of_book(&self.book);
         let all = Vec::with_capacity(*self.parcels.allocator(), 1)?;
-        self.book.reserve(MOST_ENTRIES)?;
-        let got = self.call(rt, FreeBatchOfOne { block, all });
-        of_book(&self.book);
-        match got {
+        match self.ask(rt, FreeBatchOfOne { block, all })? {
             Ok(()) => Ok(()),
             Err(_not_live) => unreachable!(),
         }
@@ -161,10 +153,7 @@ impl Session {
         ensures { IfOk result (λ got. EndsOfSize self.old block n got self.new) }
     {
         of_sessions();
-        of_book(&self.book);
-        self.book.reserve(MOST_ENTRIES)?;
-        let got = self.call(rt, FreeOfSize { block, n });
-        of_book(&self.book);
+        let got = self.ask(rt, FreeOfSize { block, n })?;
         Ok(got)
     }
 }

@@ -7,9 +7,9 @@ ghost use Rattle.mz_session.specs.Names.{block_with, HasSomeOfBatch};
 ghost use Rattle.mz_session.specs.Sessions.{IsKept};
 ghost use Rattle.mz_session.specs.Serving.{Makes, MakesCleared, MakesAligned, Serves};
 
-use crate::calling::{BatchOfOne, Calloc, Malloc, Memalign, Valloc};
-use crate::laws::{of_book, of_sessions};
-use crate::session::{MOST_ENTRIES, Session};
+use crate::calling::{BatchOfOne, Calloc, Malloc, Memalign, Valloc, is_placed};
+use crate::laws::of_sessions;
+use crate::session::Session;
 use mz_rack::Null;
 use mz_trace::Answer;
 use mz_words::{BaseName, BatchCount, BatchIndex, BatchName, Name};
@@ -151,12 +151,8 @@ impl Session {
         ensures { IfOk result (λ got. Makes self.old n 16 got self.new) }
     {
         of_sessions();
-        self.book.reserve(MOST_ENTRIES)?;
-        let got = self.call(rt, Malloc { n });
-        of_book(&self.book);
-        if let Ok(block) = &got {
-            block.keeps_its_place();
-        }
+        let got = self.ask(rt, Malloc { n })?;
+        is_placed(&got);
         Ok(got)
     }
 
@@ -167,12 +163,8 @@ impl Session {
     {
         of_sessions();
         let out = Vec::with_capacity(*self.parcels.allocator(), 1)?;
-        self.book.reserve(MOST_ENTRIES)?;
-        let got = self.call(rt, BatchOfOne { n, out });
-        of_book(&self.book);
-        if let Ok(block) = &got {
-            block.keeps_its_place();
-        }
+        let got = self.ask(rt, BatchOfOne { n, out })?;
+        is_placed(&got);
         Ok(got)
     }
 
@@ -182,12 +174,8 @@ impl Session {
         ensures { IfOk result (λ got. Makes self.old n PAGE got self.new) }
     {
         of_sessions();
-        self.book.reserve(MOST_ENTRIES)?;
-        let got = self.call(rt, Valloc { n });
-        of_book(&self.book);
-        if let Ok(block) = &got {
-            block.keeps_its_place();
-        }
+        let got = self.ask(rt, Valloc { n })?;
+        is_placed(&got);
         Ok(got)
     }
 
@@ -202,12 +190,8 @@ impl Session {
         ensures { IfOk result (λ got. MakesCleared self.old n m got self.new) }
     {
         of_sessions();
-        self.book.reserve(MOST_ENTRIES)?;
-        let got = self.call(rt, Calloc { n, m });
-        of_book(&self.book);
-        if let Ok(block) = &got {
-            block.keeps_its_place();
-        }
+        let got = self.ask(rt, Calloc { n, m })?;
+        is_placed(&got);
         Ok(got)
     }
 
@@ -222,12 +206,8 @@ impl Session {
         ensures { IfOk result (λ got. MakesAligned self.old al n got self.new) }
     {
         of_sessions();
-        self.book.reserve(MOST_ENTRIES)?;
-        let got = self.call(rt, Memalign { al, n });
-        of_book(&self.book);
-        if let Ok(block) = &got {
-            block.keeps_its_place();
-        }
+        let got = self.ask(rt, Memalign { al, n })?;
+        is_placed(&got);
         Ok(got)
     }
 }

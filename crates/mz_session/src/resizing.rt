@@ -6,8 +6,8 @@ ghost use Rattle.mz_session.specs.Sessions.{Keeps, IsKept};
 ghost use Rattle.mz_session.specs.Serving.{RemakesOrNot, Serves, ServesResize, IsKeptOrBase};
 
 use crate::calling::Realloc;
-use crate::laws::{of_book, of_sessions};
-use crate::session::{MOST_ENTRIES, Session};
+use crate::laws::of_sessions;
+use crate::session::Session;
 use mz_rack::Null;
 use mz_trace::{Answer, Names, Renaming};
 use mz_words::Name;
@@ -79,10 +79,7 @@ impl Session {
         ensures { IfOk result (λ got. RemakesOrNot self.old block n got self.new) }
     {
         of_sessions();
-        of_book(&self.book);
-        self.book.reserve(MOST_ENTRIES)?;
-        let got = self.call(rt, Realloc { block, n });
-        of_book(&self.book);
+        let got = self.ask(rt, Realloc { block, n })?;
         let fault = match got {
             Ok(block) => {
                 block.keeps_its_place();

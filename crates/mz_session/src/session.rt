@@ -27,9 +27,6 @@ use mz_zone::{Block, Zone};
 use std::alloc::{AllocError, Global};
 use std::marker::Model;
 
-/// The most entries that one call of a zone adds.
-pub(crate) const MOST_ENTRIES: u64 = 40;
-
 /// The session of the one caller of a space: what serves it, and what it holds. Contracts see its zone, all entries so far with
 /// what is known of nano, the names that are held, each with its block, and the blocks that are on their way.
 #[derive(Drop)]

@@ -97,22 +97,6 @@ fn commands_of_one_round(rt: HostRuntime) -> Result<(), Fail> {
                 blocks_in_use 2\nsize_in_use 96\nmax_size_in_use 96\nsize_allocated 1048576\n",
         },
         Row {
-            name: "repeated-free",
-            commands: "0 malloc a 48\n0 free a\n0 free a\n",
-            records: "> malloc a 48\n\
-                0 full 0t0 48 16\n\
-                1 full 0td 48 16\n\
-                2 take 0t0 0 64\n\
-                3 new 0t0 0 48 16\n\
-                = block 0 48\n\
-                > free a\n\
-                4 end 0t0 0 48\n\
-                = ok\n\
-                > free a\n\
-                = not-held\n",
-            tail: "blocks_in_use 0\nsize_in_use 0\nmax_size_in_use 48\nsize_allocated 1048576\n",
-        },
-        Row {
             name: "held",
             commands: "0 malloc a 8\n0 malloc a 8\n",
             records: "> malloc a 8\n\

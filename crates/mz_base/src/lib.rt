@@ -20,6 +20,3 @@ pub use items::Items;
 pub use profile::Profile;
 pub use range::{PAGE, Range, good_size, route, unit, units};
 pub use zone_name::ZoneName;
-
-#[cfg(test)]
-mod tests;

@@ -22,6 +22,3 @@ pub mod laws;
 mod words;
 
 pub use bits::Bits;
-
-#[cfg(test)]
-mod tests;

@@ -21,6 +21,4 @@ mod OwnLemmas
 mod GrowthLemmas
 mod WordLemmas
 mod ClientLemmas
-mod ToyLemmas
 mod PartsLemmas
-mod ToySlotLemmas

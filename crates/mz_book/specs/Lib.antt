@@ -14,4 +14,3 @@ pub mod HistoryLaws
 pub mod Living
 pub mod Noting
 pub mod Client
-pub mod Toys

@@ -32,8 +32,6 @@ pub mod light;
 pub mod pair;
 pub mod parts;
 pub mod plain;
-#[cfg(test)]
-mod tests;
 
 pub use book::Book;
 pub use light::{Asked, Clash, Found, Light};

@@ -29,6 +29,3 @@ pub use parcel::Parcel;
 pub use space::Space;
 pub use span::Span;
 pub use strip::Strip;
-
-#[cfg(test)]
-mod tests;

@@ -29,6 +29,3 @@ pub use listing::{LiveAt, RunAt};
 pub use mz_events::{Entry, Event, Keep, Place, laws};
 pub use state::{State, StepFault, step};
 pub use verdict::{Verdict, audit};
-
-#[cfg(test)]
-mod tests;

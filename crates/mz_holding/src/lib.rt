@@ -44,6 +44,3 @@ pub use held::Held;
 pub use holding::Holding;
 pub use nano::NanoPage;
 pub use pages::{FreePages, Taken};
-
-#[cfg(test)]
-mod tests;

@@ -33,6 +33,3 @@ pub use source::{Failed, Source};
 pub use std_sink::StdSink;
 pub use std_source::StdSource;
 pub use sure_source::SureSource;
-
-#[cfg(test)]
-mod tests;

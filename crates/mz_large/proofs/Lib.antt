@@ -5,4 +5,3 @@ pub mod Runs
 pub mod OneOut
 pub mod Keeping
 pub mod Finding
-pub mod Tested

@@ -25,6 +25,3 @@ mod large;
 mod live;
 
 pub use large::Large;
-
-#[cfg(test)]
-mod tests;

@@ -5,4 +5,3 @@ pub mod SlotLemmas
 pub mod KeptLemmas
 pub mod PutLemmas
 pub mod TakeLemmas
-pub mod PlainLemmas

@@ -6,4 +6,3 @@ pub mod Heads
 pub mod Slots
 pub mod Chains
 pub mod Kept
-pub mod Plain

@@ -35,6 +35,3 @@ mod words;
 
 pub use lists::FreeLists;
 pub use mz_steps::Steps;
-
-#[cfg(test)]
-mod tests;

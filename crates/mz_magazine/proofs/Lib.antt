@@ -11,4 +11,3 @@ pub mod Regions
 pub mod KeepingRuns
 pub mod KeepingFreed
 pub mod Adopting
-pub mod Tested

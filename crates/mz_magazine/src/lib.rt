@@ -32,6 +32,3 @@ mod row;
 mod search;
 
 pub use magazine::Magazine;
-
-#[cfg(test)]
-mod tests;

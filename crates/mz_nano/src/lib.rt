@@ -56,6 +56,3 @@ pub use nano::Nano;
 pub use seat::{Contended, Miss, NanoSeat};
 pub use slot::SlotSpan;
 pub use view::Held;
-
-#[cfg(test)]
-mod tests;

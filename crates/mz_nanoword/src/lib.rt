@@ -22,6 +22,3 @@ pub mod laws;
 mod word;
 
 pub use word::NanoWord;
-
-#[cfg(test)]
-mod tests;

@@ -21,6 +21,3 @@ mod pages;
 mod search;
 
 pub use pages::Pages;
-
-#[cfg(test)]
-mod tests;

@@ -12,7 +12,6 @@ mod Answered
 mod KeeperLemmas
 mod StockLemmas
 mod OpeningLemmas
-mod Asked
 mod OpenZones
 mod Looking
 mod Ended
@@ -26,7 +25,5 @@ mod LargeSteps
 mod LargeServing
 mod LargeAnswered
 mod Seeking
-mod TwoZones
 mod Refitting
 mod Resizing
-mod StillMine

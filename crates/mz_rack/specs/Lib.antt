@@ -16,6 +16,5 @@ pub mod BookLaws
 pub mod Runs
 pub mod Flushing
 pub mod Seeking
-pub mod TwoZones
 pub mod Resizing
 pub mod ResizeStages

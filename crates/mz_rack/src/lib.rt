@@ -69,8 +69,6 @@ mod resize;
 mod serve;
 mod shelf;
 mod stock;
-#[cfg(test)]
-mod tests;
 mod way;
 
 pub use keeper::Keeper;

@@ -23,6 +23,3 @@ mod search;
 
 pub use blank::Blank;
 pub use region::Region;
-
-#[cfg(test)]
-mod tests;

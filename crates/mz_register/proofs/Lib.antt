@@ -15,4 +15,3 @@ mod HandInLemmas
 mod WriteLemmas
 mod FitLemmas
 mod AtEnd
-mod ToyLemmas

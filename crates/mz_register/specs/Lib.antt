@@ -6,4 +6,3 @@ pub mod Orderly
 pub mod Opened
 pub mod Merged
 pub mod HandIn
-pub mod Toys

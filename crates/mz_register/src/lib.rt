@@ -39,8 +39,6 @@ mod records;
 pub mod register;
 pub mod shared;
 mod steps;
-#[cfg(test)]
-mod tests;
 
 pub use desk::Desk;
 pub use mz_book::{Asked, Book, Found, Light, Pair, PlainBook};

@@ -24,6 +24,3 @@ mod top;
 pub use job::{Job, RunJob, Tool};
 pub use status::Status;
 pub use top::{mzone_main, run_call, tool_call};
-
-#[cfg(test)]
-mod tests;

@@ -39,6 +39,3 @@ pub use run::{CallRecord, Run, RunEntry, RunRound, StartRecord};
 pub use run_printer::print_run;
 pub use tail::{Figures, Listed, Statistics, Tail};
 pub use trace::Trace;
-
-#[cfg(test)]
-mod tests;

@@ -29,6 +29,3 @@ mod tail;
 
 pub use fault::RunFault;
 pub use parser::parse_run;
-
-#[cfg(test)]
-mod tests;

@@ -42,6 +42,3 @@ pub use name::{BaseName, BatchName, BlockName, GivenName, Name, OldName};
 pub use sentence::{Sentence, read_sentence, write_sentence};
 pub use shown::Shown;
 pub use table::{Form, Row, form_among};
-
-#[cfg(test)]
-mod tests;

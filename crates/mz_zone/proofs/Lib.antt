@@ -18,6 +18,3 @@ pub mod InPlace
 pub mod Summed
 pub mod Batched
 pub mod Ended
-pub mod Tested
-pub mod TwoZones
-pub mod StillHandedIn

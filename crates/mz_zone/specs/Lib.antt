@@ -11,4 +11,3 @@ pub mod Freeing
 pub mod Moving
 pub mod Batches
 pub mod Resizing
-pub mod Tested

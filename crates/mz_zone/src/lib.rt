@@ -33,8 +33,6 @@ mod free;
 mod laws;
 mod nano;
 mod realloc;
-#[cfg(test)]
-mod tests;
 mod zone;
 
 pub use at::At;

@@ -1,6 +1,0 @@
-use Rattle.mz_large.proofs.Tested.{IsCutUp}
-use Rattle.mz_large.proofs.tests.bench.Bench.of_runs.Given as goal
-
--- all runs were cut from what is left
-abbrev pub invariant-loop-pages : goal.invariant-loop-pages
-invariant-loop-pages l = IsCutUp l.large l.spans.items l.rest

@@ -1,4 +1,0 @@
-use Rattle.mz_lists.proofs.tests.lists_of_each_count_answer_as_a_plain_list_does.Given as goal
-
-abbrev pub ghosts-calls_at_each_count : goal.ghosts-calls_at_each_count
-ghosts-calls_at_each_count g a = record { name = a.blank.name; parts = a.blank.parts }

@@ -1,9 +1,0 @@
-use Rattle.mz_book.specs.contracts.plain.PlainBookBook.TheImpl.{ghosts}
-use Rattle.mz_rack.specs.contracts.keeper.Keeper.{the_row}
-use Rattle.mz_rack.specs.contracts.keeper.KeeperKeep.TheImpl as keep
-use Rattle.mz_rack.specs.Serving.{CanServe}
-use Rattle.mz_rack.proofs.tests.ask_often.Given as goal
-
--- the next request can be made
-abbrev pub invariant-loop : goal.invariant-loop
-invariant-loop g l = CanServe ((ghosts the_row keep.ghosts keep.dict).account l.book) l.rack.profile l.rack.zone 0

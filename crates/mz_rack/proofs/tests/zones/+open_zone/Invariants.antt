@@ -1,6 +1,0 @@
-use Rattle.std.proofs.Common.{◌-◌}
-use Rattle.mz_rack.proofs.tests.zones.+open_zone.Given as goal
-
--- the keepers that are not held yet
-abbrev pub decreases-open_zone : goal.decreases-open_zone
-decreases-open_zone g l = 9 - l.n

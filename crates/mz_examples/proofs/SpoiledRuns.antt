@@ -1,8 +1,8 @@
 -- A run with a record that doesn't fit isn't lawful.
 use Rattle.std.proofs.Common.{ℕ, zero, suc, List, [], ◌∷◌}
 use Rattle.std.specs.List.{AllByRecursion}
-use Rattle.mz_fit.specs.Fitting.{FitsRecord}
-use Rattle.mz_fit.specs.LawfulRun.{Placed}
+use Rattle.mz_lawful.specs.Fitting.{FitsRecord}
+use Rattle.mz_lawful.specs.LawfulRun.{Placed}
 use Rattle.mz_examples.specs.Spoiled.{AtRecord}
 
 -- where something holds of one of them that no fitting record has, not all records fit

@@ -14,9 +14,9 @@ use Rattle.mz_trace.specs.declared.run.Run.{Run}
 use Rattle.mz_trace.specs.declared.tail.Figures.{Figures}
 use Rattle.mz_words.specs.declared.name.Name.{Name}
 use Rattle.mz_words.specs.declared.name.Name.TheVariants.{Base}
-use Rattle.mz_fit.specs.Records.{call}
-use Rattle.mz_fit.specs.Tasks.{Task, task_of}
-use Rattle.mz_fit.specs.LawfulRun.{first_setting}
+use Rattle.mz_lawful.specs.Records.{call}
+use Rattle.mz_lawful.specs.Tasks.{Task, task_of}
+use Rattle.mz_lawful.specs.LawfulRun.{first_setting}
 use Rattle.mz_examples.specs.Examples.{profile_of, entry_of, magazine, depot, large, first_region}
 use Rattle.mz_examples.specs.Edges.{small_magazine, small_depot}
 use Rattle.mz_examples.specs.Records.{record_of, round_of_records, run_of_one, listed_at, figures}

@@ -2,12 +2,12 @@
 use Rattle.std.specs.Prelude.{ℕ, zero, suc, ◌≡◌, false, List, [], ◌∷◌}
 use Rattle.mz_trace.specs.declared.run.Run.{Run}
 use Rattle.mz_trace.specs.RunTexts.{trace_of}
-use Rattle.mz_fit.specs.Records.{caller_of}
-use Rattle.mz_fit.specs.Standing.{caller_at}
-use Rattle.mz_fit.specs.Settings.{low}
-use Rattle.mz_fit.specs.Tasks.{task_of}
-use Rattle.mz_fit.specs.Fitting.{IsAnswer, AreEntries, are_bytes_shown, is_rising_from}
-use Rattle.mz_fit.specs.LawfulRun.{Placed, placed_records, IsLawfulRun}
+use Rattle.mz_lawful.specs.Records.{caller_of}
+use Rattle.mz_lawful.specs.Standing.{caller_at}
+use Rattle.mz_lawful.specs.Settings.{low}
+use Rattle.mz_lawful.specs.Tasks.{task_of}
+use Rattle.mz_lawful.specs.Fitting.{IsAnswer, AreEntries, are_bytes_shown, is_rising_from}
+use Rattle.mz_lawful.specs.LawfulRun.{Placed, placed_records, IsLawfulRun}
 
 -- the run is a lawful one, of its own lines
 abbrev pub IsLawful : Run → Type 0

@@ -20,11 +20,11 @@ use Rattle.mz_record.specs.Served.{Request, first_made, ServeInTurn}
 use Rattle.mz_record.specs.Dropped.{DropInTurn}
 use Rattle.mz_record.specs.Resized.{IsHemmedIn, Moves, to_nothing, between_ranges, out_of_nano, large, hemmed_in, IsMoved, moved, not_moved}
 use Rattle.mz_record.specs.Zones.{zone_of_block, destroying}
-use Rattle.mz_fit.specs.Standing.{Standing, caller_at}
-use Rattle.mz_fit.specs.Settings.{Setting, above, least_ticket, now, high}
-use Rattle.mz_fit.specs.Tasks.{Task, refused, serving, resizing, dropping, denying, telling, filling, showing, linking, giving, batching, unbatching, using, opening_zone, destroying_zone, task_of_call}
-use Rattle.mz_fit.specs.Fitting.{IsAnswer, AreEntries, are_bytes_shown, FitsRecord}
-use Rattle.mz_fit.specs.After.{after_record, after_task}
+use Rattle.mz_lawful.specs.Standing.{Standing, caller_at}
+use Rattle.mz_lawful.specs.Settings.{Setting, above, least_ticket, now, high}
+use Rattle.mz_lawful.specs.Tasks.{Task, refused, serving, resizing, dropping, denying, telling, filling, showing, linking, giving, batching, unbatching, using, opening_zone, destroying_zone, task_of_call}
+use Rattle.mz_lawful.specs.Fitting.{IsAnswer, AreEntries, are_bytes_shown, FitsRecord}
+use Rattle.mz_lawful.specs.After.{after_record, after_task}
 use Rattle.mz_session.specs.Serving.{record_of}
 use Rattle.mz_run.specs.Built.{is_built_command}
 use Rattle.mz_run.specs.RunLaws.{RunLaws}

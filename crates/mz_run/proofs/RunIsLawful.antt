@@ -14,13 +14,13 @@ use Rattle.mz_trace.specs.declared.run.RunRound.{RunRound}
 use Rattle.mz_trace.specs.declared.run.Run.{Run}
 use Rattle.mz_trace.specs.declared.trace.Trace.{Trace}
 use Rattle.mz_trace.specs.RunTexts.{round_of}
-use Rattle.mz_fit.specs.Records.{entry_by, call_record, call_records, entries_of_records, entries_of_round, entries_of}
-use Rattle.mz_fit.specs.Standing.{Standing, first_standing, delivered}
-use Rattle.mz_fit.specs.Fitting.{FitsRecord}
-use Rattle.mz_fit.specs.After.{after_record}
-use Rattle.mz_fit.specs.LawfulRun.{Placed, placed, behind_all, placed_round, placed_rounds, after_rounds, IsLawfulRun, last_standing}
+use Rattle.mz_lawful.specs.Records.{entry_by, call_record, call_records, entries_of_records, entries_of_round, entries_of}
+use Rattle.mz_lawful.specs.Standing.{Standing, first_standing, delivered}
+use Rattle.mz_lawful.specs.Fitting.{FitsRecord}
+use Rattle.mz_lawful.specs.After.{after_record}
+use Rattle.mz_lawful.specs.LawfulRun.{Placed, placed, behind_all, placed_round, placed_rounds, after_rounds, IsLawfulRun, last_standing}
 use Rattle.mz_trace.specs.declared.tail.Figures.{Figures}
-use Rattle.mz_fit.specs.Tail.{listing_of, statistics_of, tail_of}
+use Rattle.mz_lawful.specs.Tail.{listing_of, statistics_of, tail_of}
 use Rattle.mz_session.specs.Names.{block_with, block_named}
 use Rattle.mz_session.specs.Sessions.{SessionView, IsOpened, StandsFor, ArePassed}
 use Rattle.mz_session.specs.Serving.{record_of}

@@ -11,8 +11,8 @@ use Rattle.mz_events.specs.declared.place.Place.{Place}
 use Rattle.mz_events.specs.declared.place.Place.TheVariants.{Pages, Tiny, TinyDepot, Small, SmallDepot, Large, Nano}
 use Rattle.mz_events.specs.State.{State}
 use Rattle.mz_record.specs.Listing.{range_of, blocks_by_address}
-use Rattle.mz_fit.specs.Standing.{Standing}
-use Rattle.mz_fit.specs.Tail.{listed, listing_of}
+use Rattle.mz_lawful.specs.Standing.{Standing}
+use Rattle.mz_lawful.specs.Tail.{listed, listing_of}
 use Rattle.mz_trace.specs.declared.run.CallRecord.{CallRecord}
 use Rattle.mz_trace.specs.declared.run.RunRound.{RunRound}
 use Rattle.mz_trace.specs.declared.trace.Trace.{Trace}

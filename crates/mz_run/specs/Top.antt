@@ -19,8 +19,8 @@ use Rattle.mz_run.specs.declared.job.Job.{Job}
 use Rattle.mz_run.specs.declared.job.Job.TheVariants as jobs
 use Rattle.mz_run.specs.Jobs.{job_of}
 use Rattle.mz_run.specs.Built.{unbuilt_line, HasUnbuilt}
-use Rattle.mz_fit.specs.LawfulRun.{IsLawfulRun}
-use Rattle.mz_fit.specs.Tail.{tail_of}
+use Rattle.mz_lawful.specs.LawfulRun.{IsLawfulRun}
+use Rattle.mz_lawful.specs.Tail.{tail_of}
 
 -- the most bytes that an input may have
 abbrev pub most_bytes : ℕ

@@ -2,8 +2,8 @@
 
 ghost use Rattle.std.specs.Prelude.{◌≡◌, true, [], ◌∷◌, IfOk, OnOk, IsTrue, map};
 ghost use Rattle.std.specs.List.{list_all};
-ghost use Rattle.mz_fit.specs.LawfulRun.{IsLawfulRun};
-ghost use Rattle.mz_fit.specs.Tail.{tail_of};
+ghost use Rattle.mz_lawful.specs.LawfulRun.{IsLawfulRun};
+ghost use Rattle.mz_lawful.specs.Tail.{tail_of};
 ghost use Rattle.mz_trace.specs.RunForms.{IsRun, IsTail};
 ghost use Rattle.mz_trace.specs.RunTexts.{round_of};
 ghost use Rattle.mz_trace.specs.Texts.{IsTrace};

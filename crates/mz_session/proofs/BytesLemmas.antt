@@ -10,9 +10,9 @@ use Rattle.mz_lines.specs.declared.answer.Answer.TheVariants as answers
 use Rattle.mz_lines.specs.declared.command.Command.{Command}
 use Rattle.mz_lines.specs.declared.command.Command.TheVariants.{Size, Show, Link}
 use Rattle.mz_record.specs.Bytes.{low_bytes, linked, is_shown_as}
-use Rattle.mz_fit.specs.Records.{call}
-use Rattle.mz_fit.specs.Standing.{Standing, caller_at, bytes_of}
-use Rattle.mz_fit.specs.Tasks.{refused, telling, showing, linking, with_held, refuse_if, task_of}
+use Rattle.mz_lawful.specs.Records.{call}
+use Rattle.mz_lawful.specs.Standing.{Standing, caller_at, bytes_of}
+use Rattle.mz_lawful.specs.Tasks.{refused, telling, showing, linking, with_held, refuse_if, task_of}
 use Rattle.mz_zone.specs.Blocks.{BlockView, block_of, with_block_bytes}
 use Rattle.mz_session.specs.Names.{NamedBlocks, block_with}
 use Rattle.mz_session.specs.Changes.{AreWith, written}

@@ -14,9 +14,9 @@ use Rattle.mz_events.specs.Changes.{one_for}
 use Rattle.mz_events.specs.Hands.{own, hand_through}
 use Rattle.mz_record.specs.Served.{Serves as ServesRequest}
 use Rattle.mz_record.specs.Dropped.{IsDropped}
-use Rattle.mz_fit.specs.Settings.{above}
-use Rattle.mz_fit.specs.Tasks.{request_of}
-use Rattle.mz_fit.specs.Fitting.{is_rising_from}
+use Rattle.mz_lawful.specs.Settings.{above}
+use Rattle.mz_lawful.specs.Tasks.{request_of}
+use Rattle.mz_lawful.specs.Fitting.{is_rising_from}
 use Rattle.mz_book.specs.declared.pair.Pair.{Pair}
 use Rattle.mz_book.specs.Account.{Account, IsOrderly, state_of, hand, is_live}
 use Rattle.mz_book.specs.Pairs.{hand_among}

@@ -10,10 +10,10 @@ use Rattle.mz_lines.specs.declared.answer.Answer.{Answer}
 use Rattle.mz_lines.specs.declared.answer.Answer.TheVariants as answers
 use Rattle.mz_lines.specs.declared.command.Command.{Command}
 use Rattle.mz_lines.specs.declared.command.Command.TheVariants.{Calloc, Memalign, FreeAt, SizedFree}
-use Rattle.mz_fit.specs.Records.{call}
-use Rattle.mz_fit.specs.Standing.{Standing, caller_at}
-use Rattle.mz_fit.specs.Settings.{Setting}
-use Rattle.mz_fit.specs.Tasks.{refused, serving, dropping, refuse_if, drop_from, is_alignment, is_wrong_size, request_of, task_of}
+use Rattle.mz_lawful.specs.Records.{call}
+use Rattle.mz_lawful.specs.Standing.{Standing, caller_at}
+use Rattle.mz_lawful.specs.Settings.{Setting}
+use Rattle.mz_lawful.specs.Tasks.{refused, serving, dropping, refuse_if, drop_from, is_alignment, is_wrong_size, request_of, task_of}
 use Rattle.mz_zone.specs.Blocks.{BlockView, block_of}
 use Rattle.mz_session.specs.declared.parcel.Parcel.{Parcel}
 use Rattle.mz_session.specs.Names.{NamedBlocks, BeginsAt, block_with}

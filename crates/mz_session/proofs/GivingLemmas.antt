@@ -15,10 +15,10 @@ use Rattle.mz_words.specs.declared.name.GivenName.{GivenName}
 use Rattle.mz_lines.specs.declared.answer.Answer.TheVariants as answers
 use Rattle.mz_lines.specs.declared.command.Command.TheVariants.{Give}
 use Rattle.mz_lines.specs.Lines.{command_gives}
-use Rattle.mz_fit.specs.Names.{same_name}
-use Rattle.mz_fit.specs.Standing.{Holding, Gift, Standing, Caller, caller_at, bytes_of, with_name, knowing, with_gift, received, delivered}
-use Rattle.mz_fit.specs.Tasks.{giving}
-use Rattle.mz_fit.specs.After.{changed, without_block}
+use Rattle.mz_lawful.specs.Names.{same_name}
+use Rattle.mz_lawful.specs.Standing.{Holding, Gift, Standing, Caller, caller_at, bytes_of, with_name, knowing, with_gift, received, delivered}
+use Rattle.mz_lawful.specs.Tasks.{giving}
+use Rattle.mz_lawful.specs.After.{changed, without_block}
 use Rattle.mz_book.specs.declared.pair.Pair.{Pair}
 use Rattle.mz_book.specs.Pairs.{pair_at, is_from, given, hand_among, block_of as block_of_pair}
 use Rattle.mz_book.specs.Living.{times}

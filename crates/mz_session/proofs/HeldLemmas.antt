@@ -8,8 +8,8 @@ use Rattle.std.proofs.lemmas.List.Elements.{Contains-append_cases, Contains-appe
 use Rattle.std.proofs.lemmas.Option.{none-some}
 use Rattle.mz_base.specs.Space.{Block}
 use Rattle.mz_words.specs.declared.name.Name.{Name}
-use Rattle.mz_fit.specs.Names.{same_name}
-use Rattle.mz_fit.specs.Standing.{Holding, Caller, held_at, held_from}
+use Rattle.mz_lawful.specs.Names.{same_name}
+use Rattle.mz_lawful.specs.Standing.{Holding, Caller, held_at, held_from}
 use Rattle.mz_zone.specs.Blocks.{BlockView, block_of}
 use Rattle.mz_session.specs.Names.{NamedBlocks, BeginsAt, block_with, block_named, name_from}
 use Rattle.mz_session.specs.Changes.{AreWith}

@@ -22,13 +22,13 @@ use Rattle.mz_lines.specs.declared.command.Command.TheVariants as command
 use Rattle.mz_rack.specs.declared.lot.Null.{Null}
 use Rattle.mz_record.specs.Served.{Serves as ServesRequest, ServeInTurn, blocks_made}
 use Rattle.mz_record.specs.Dropped.{IsDropped, DropInTurn}
-use Rattle.mz_fit.specs.Names.{same_name, batch_name, is_in_batch, index_of}
-use Rattle.mz_fit.specs.Records.{call}
-use Rattle.mz_fit.specs.Standing.{Holding, Caller, Standing, caller_at, held_at, is_batch_held, batch_held, bytes_of}
-use Rattle.mz_fit.specs.Settings.{above}
-use Rattle.mz_fit.specs.Tasks.{refused, batching, unbatching, in_zone, request_of, task_of}
-use Rattle.mz_fit.specs.Fitting.{is_rising_from}
-use Rattle.mz_fit.specs.After.{changed, with_served, with_batch, without_block, without_blocks}
+use Rattle.mz_lawful.specs.Names.{same_name, batch_name, is_in_batch, index_of}
+use Rattle.mz_lawful.specs.Records.{call}
+use Rattle.mz_lawful.specs.Standing.{Holding, Caller, Standing, caller_at, held_at, is_batch_held, batch_held, bytes_of}
+use Rattle.mz_lawful.specs.Settings.{above}
+use Rattle.mz_lawful.specs.Tasks.{refused, batching, unbatching, in_zone, request_of, task_of}
+use Rattle.mz_lawful.specs.Fitting.{is_rising_from}
+use Rattle.mz_lawful.specs.After.{changed, with_served, with_batch, without_block, without_blocks}
 use Rattle.mz_record.specs.Bytes.{is_shown_as}
 use Rattle.mz_zone.specs.Blocks.{BlockView, block_of}
 use Rattle.mz_session.specs.Names.{NamedBlocks, block_with, IsFirstInBatch, HasSomeOfBatch}

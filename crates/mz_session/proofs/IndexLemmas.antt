@@ -10,8 +10,8 @@ use Rattle.mz_base.specs.Lists.{insert_by}
 use Rattle.mz_base.specs.Space.{Block}
 use Rattle.mz_words.specs.declared.name.Name.{Name}
 use Rattle.mz_words.specs.declared.name.Name.TheVariants.{Base, Batch, Given}
-use Rattle.mz_fit.specs.Names.{same_name, batch_name, is_in_batch, index_of}
-use Rattle.mz_fit.specs.Standing.{Holding, by_index}
+use Rattle.mz_lawful.specs.Names.{same_name, batch_name, is_in_batch, index_of}
+use Rattle.mz_lawful.specs.Standing.{Holding, by_index}
 use Rattle.mz_session.specs.Sessions.{AreHeldOnce}
 use Rattle.mz_session.proofs.CountLemmas.{some-is}
 use Rattle.mz_session.proofs.NameLemmas.{name-self, same-is-name, first-or-later, here-first, later-too}

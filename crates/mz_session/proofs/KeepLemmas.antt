@@ -12,7 +12,7 @@ use Rattle.mz_events.specs.State.{is_open}
 use Rattle.mz_events.specs.Changes.{one_for}
 use Rattle.mz_words.specs.declared.name.Name.{Name}
 use Rattle.mz_words.specs.declared.name.Name.TheVariants.{Given}
-use Rattle.mz_fit.specs.Names.{same_name}
+use Rattle.mz_lawful.specs.Names.{same_name}
 use Rattle.mz_book.specs.Account.{HoldsNothing, state_of, hand}
 use Rattle.mz_book.specs.Living.{times}
 use Rattle.mz_zone.specs.Blocks.{BlockView, block_of}

@@ -4,7 +4,7 @@ use Rattle.std.specs.Prelude.{find, filter}
 use Rattle.std.proofs.lemmas.Bool.{cases_Bool}
 use Rattle.mz_base.specs.Space.{Block, same_block}
 use Rattle.mz_record.specs.Bytes.{Bytes, fresh}
-use Rattle.mz_fit.specs.Standing.{Caller, bytes_of, forgetting, knowing}
+use Rattle.mz_lawful.specs.Standing.{Caller, bytes_of, forgetting, knowing}
 use Rattle.mz_session.proofs.CountLemmas.{same-is, same-self}
 
 -- the bytes that were found, or none known

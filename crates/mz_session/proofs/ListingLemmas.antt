@@ -27,8 +27,8 @@ use Rattle.mz_record.specs.Listing.{range_of}
 use Rattle.mz_record.specs.Zones.{zone_at}
 use Rattle.mz_book.specs.Living.{times}
 use Rattle.mz_trace.specs.declared.tail.Listed.{Listed}
-use Rattle.mz_fit.specs.Standing.{Standing, default_zone, zone_name}
-use Rattle.mz_fit.specs.Tail.{listed, listing_of}
+use Rattle.mz_lawful.specs.Standing.{Standing, default_zone, zone_name}
+use Rattle.mz_lawful.specs.Tail.{listed, listing_of}
 use Rattle.mz_session.specs.Listing.{AreLive, range_in, listed_in}
 use Rattle.mz_session.specs.ListingLaws.{ListingLaws}
 use Rattle.mz_session.proofs.CountLemmas.{or-left, or-right}

@@ -18,7 +18,7 @@ use Rattle.mz_words.specs.declared.name.Name.{Name}
 use Rattle.mz_words.specs.declared.name.Name.TheVariants.{Base, Batch, Given}
 use Rattle.mz_words.specs.contracts.name.NameOrd.TheImpl as ord
 use Rattle.mz_words.specs.contracts.name.NameOrd.TheImpl.Laws as laws
-use Rattle.mz_fit.specs.Names.{same_name}
+use Rattle.mz_lawful.specs.Names.{same_name}
 use Rattle.mz_book.specs.Living.{times}
 use Rattle.mz_zone.specs.Blocks.{BlockView, block_of}
 use Rattle.mz_session.specs.Names.{NamedBlocks, views_named, blocks_named, block_with, name_from}

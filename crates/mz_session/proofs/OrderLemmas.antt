@@ -19,7 +19,7 @@ use Rattle.std.proofs.lemmas.Slice.Eq.{bytes_eq-Decides}
 use Rattle.mz_words.specs.declared.name.BatchName.{BatchName}
 use Rattle.mz_words.specs.declared.name.Name.{Name}
 use Rattle.mz_words.specs.declared.name.Name.TheVariants.{Base, Batch, Given}
-use Rattle.mz_fit.specs.Names.{same_name, batch_name}
+use Rattle.mz_lawful.specs.Names.{same_name, batch_name}
 use Rattle.mz_zone.specs.Blocks.{BlockView}
 use Rattle.mz_session.specs.Names.{NamedBlocks, block_with, IsFirstInBatch}
 use Rattle.mz_session.proofs.NameLemmas.{name-self, same-is-name, name_cmp, name-order, finds, lookup-block}

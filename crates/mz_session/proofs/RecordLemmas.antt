@@ -16,12 +16,12 @@ use Rattle.mz_lines.specs.declared.command.Command.{Command}
 use Rattle.mz_lines.specs.Lines.{command_gives}
 use Rattle.mz_record.specs.Dropped.{IsDropped}
 use Rattle.mz_record.specs.Served.{first_made, Serves as ServesRequest}
-use Rattle.mz_fit.specs.Records.{LineRecord, caller_of, call}
-use Rattle.mz_fit.specs.Standing.{Holding, Caller, Standing, default_zone, caller_at, zone_number, is_held}
-use Rattle.mz_fit.specs.Settings.{Setting, low, above}
-use Rattle.mz_fit.specs.Tasks.{Task, refused, serving, dropping, drop_from, in_zone, with_new, with_held, request_of, task_of}
-use Rattle.mz_fit.specs.Fitting.{IsAnswer, AreEntries, are_bytes_shown, is_rising_from, block_answer, FitsRecord}
-use Rattle.mz_fit.specs.After.{after_task, after_record, changed, with_served}
+use Rattle.mz_lawful.specs.Records.{LineRecord, caller_of, call}
+use Rattle.mz_lawful.specs.Standing.{Holding, Caller, Standing, default_zone, caller_at, zone_number, is_held}
+use Rattle.mz_lawful.specs.Settings.{Setting, low, above}
+use Rattle.mz_lawful.specs.Tasks.{Task, refused, serving, dropping, drop_from, in_zone, with_new, with_held, request_of, task_of}
+use Rattle.mz_lawful.specs.Fitting.{IsAnswer, AreEntries, are_bytes_shown, is_rising_from, block_answer, FitsRecord}
+use Rattle.mz_lawful.specs.After.{after_task, after_record, changed, with_served}
 use Rattle.mz_rack.specs.declared.lot.Null.{Null}
 use Rattle.mz_zone.specs.Blocks.{BlockView, block_of}
 use Rattle.mz_zone.specs.Answering.{IsCleared}

@@ -18,8 +18,8 @@ use Rattle.mz_record.specs.Resized.{IsResized, same_size, in_place, still_large,
 use Rattle.mz_record.specs.Moments.{state_at}
 use Rattle.mz_record.specs.Zones.{zone_of_block}
 use Rattle.mz_record.specs.Bytes.{kept_in_place, kept_in_move, is_shown_as}
-use Rattle.mz_fit.specs.Settings.{above, least_ticket}
-use Rattle.mz_fit.specs.After.{bytes_kept}
+use Rattle.mz_lawful.specs.Settings.{above, least_ticket}
+use Rattle.mz_lawful.specs.After.{bytes_kept}
 use Rattle.mz_book.specs.Account.{Account, IsOrderly, hand}
 use Rattle.mz_book.specs.Living.{times}
 use Rattle.mz_rack.specs.declared.lot.Null.{Null}

@@ -23,13 +23,13 @@ use Rattle.mz_base.specs.declared.range.TheConstants.{PAGE}
 use Rattle.mz_record.specs.Served.{events, size_for, block_made, first_made, Request, IsServed, by_nano, by_magazine, by_depot, by_fresh_region, null_in_range, by_cache, by_fresh_run, null_in_large}
 use Rattle.mz_record.specs.Resized.{same_size, in_place, still_large, moved, not_moved, IsReallocated, reallocated, moving_request}
 use Rattle.mz_record.specs.Zones.{zone_of_block}
-use Rattle.mz_fit.specs.Names.{same_name}
-use Rattle.mz_fit.specs.Records.{call}
-use Rattle.mz_fit.specs.Settings.{Setting, above, least_ticket}
-use Rattle.mz_fit.specs.Standing.{Holding, Caller, Standing, caller_at, is_held, bytes_of, with_name, without_name, forgetting}
-use Rattle.mz_fit.specs.Tasks.{Task, refused, resizing, refuse_if, with_held, resize, task_of}
-use Rattle.mz_fit.specs.Fitting.{IsReallocatedInZone, block_answer, is_rising_from}
-use Rattle.mz_fit.specs.After.{bytes_kept, changed, with_resized}
+use Rattle.mz_lawful.specs.Names.{same_name}
+use Rattle.mz_lawful.specs.Records.{call}
+use Rattle.mz_lawful.specs.Settings.{Setting, above, least_ticket}
+use Rattle.mz_lawful.specs.Standing.{Holding, Caller, Standing, caller_at, is_held, bytes_of, with_name, without_name, forgetting}
+use Rattle.mz_lawful.specs.Tasks.{Task, refused, resizing, refuse_if, with_held, resize, task_of}
+use Rattle.mz_lawful.specs.Fitting.{IsReallocatedInZone, block_answer, is_rising_from}
+use Rattle.mz_lawful.specs.After.{bytes_kept, changed, with_resized}
 use Rattle.mz_zone.specs.Blocks.{BlockView, block_of}
 use Rattle.mz_session.specs.Names.{NamedBlocks, block_with, block_named}
 use Rattle.mz_session.specs.Changes.{AreWith}

@@ -6,9 +6,9 @@ use Rattle.std.proofs.lemmas.Option.{none-some}
 use Rattle.mz_base.specs.Space.{same_block}
 use Rattle.mz_words.specs.declared.name.Name.{Name}
 use Rattle.mz_record.specs.Bytes.{Bytes, fresh, cleared, is_shown_as}
-use Rattle.mz_fit.specs.Names.{same_name}
-use Rattle.mz_fit.specs.Standing.{Holding, Caller, Standing, first_standing, caller_at, held_at, bytes_of, with_name, without_name, knowing}
-use Rattle.mz_fit.specs.After.{changed, with_served, without_block}
+use Rattle.mz_lawful.specs.Names.{same_name}
+use Rattle.mz_lawful.specs.Standing.{Holding, Caller, Standing, first_standing, caller_at, held_at, bytes_of, with_name, without_name, knowing}
+use Rattle.mz_lawful.specs.After.{changed, with_served, without_block}
 use Rattle.mz_zone.specs.Blocks.{BlockView, block_of}
 use Rattle.mz_zone.specs.Answering.{IsCleared}
 use Rattle.mz_session.specs.Names.{block_with, block_named}

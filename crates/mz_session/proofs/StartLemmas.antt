@@ -10,7 +10,7 @@ use Rattle.std.specs.BTreeMap.{BTreeMap, get, insert_entry}
 use Rattle.std.proofs.lemmas.Bool.{false≢true, cases_Bool, eqb-true}
 use Rattle.std.proofs.lemmas.Option.{none-some}
 use Rattle.mz_words.specs.declared.name.Name.{Name}
-use Rattle.mz_fit.specs.Names.{same_name}
+use Rattle.mz_lawful.specs.Names.{same_name}
 use Rattle.mz_zone.specs.Blocks.{BlockView}
 use Rattle.mz_session.specs.Names.{NamedBlocks, block_with, name_from, AreApart, AreStarts, BeginsAt}
 use Rattle.mz_session.proofs.CountLemmas.{some-is}

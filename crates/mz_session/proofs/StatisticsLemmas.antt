@@ -27,7 +27,7 @@ use Rattle.mz_events.specs.Bounds.{LiveBytesFit, RunsFit}
 use Rattle.mz_record.specs.Listing.{size_allocated}
 use Rattle.mz_book.specs.Living.{made_by, ended_by, SumsAfter}
 use Rattle.mz_trace.specs.declared.tail.Statistics.{Statistics}
-use Rattle.mz_fit.specs.Tail.{statistics_of}
+use Rattle.mz_lawful.specs.Tail.{statistics_of}
 use Rattle.mz_session.specs.StatisticsLaws.{StatisticsLaws}
 use Rattle.mz_session.specs.Counting.{pages_taken, pages_given, size_with, statistics_with, CanCount}
 

@@ -8,7 +8,7 @@ use Rattle.std.proofs.Math.Pow.{pow_mono}
 use Rattle.mz_base.specs.declared.range.Range.{Range}
 use Rattle.mz_base.specs.declared.range.Range.TheVariants as range
 use Rattle.mz_base.specs.Sizes.{route_of}
-use Rattle.mz_fit.specs.Tasks.{is_alignment, same_range, is_wrong_size}
+use Rattle.mz_lawful.specs.Tasks.{is_alignment, same_range, is_wrong_size}
 use Rattle.mz_zone.specs.Answering.{IsAlignment}
 use Rattle.mz_zone.specs.Blocks.{BlockView, block_of}
 use Rattle.mz_zone.specs.Freeing.{IsWrongSize}

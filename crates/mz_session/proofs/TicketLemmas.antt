@@ -3,8 +3,8 @@ use Rattle.std.proofs.Common.{◌≡◌, ℕ, suc, ◌+◌, true, List, [], ◌�
 use Rattle.std.specs.Prelude.{nat_le, slice_get}
 use Rattle.std.proofs.lemmas.Bool.{and_from, le-leb}
 use Rattle.mz_events.specs.declared.entry.Entry.{Entry}
-use Rattle.mz_fit.specs.Settings.{above}
-use Rattle.mz_fit.specs.Fitting.{is_rising_from}
+use Rattle.mz_lawful.specs.Settings.{above}
+use Rattle.mz_lawful.specs.Fitting.{is_rising_from}
 
 -- the tickets are k, k + 1 and so on
 abbrev pub CountsFrom : ℕ → List Entry → Type 0

@@ -15,12 +15,12 @@ use Rattle.mz_lines.specs.declared.answer.Answer.TheVariants as answers
 use Rattle.mz_lines.specs.declared.command.Command.{Command}
 use Rattle.mz_record.specs.Bytes.{Bytes, is_shown_as}
 use Rattle.mz_nano.specs.declared.view.Held.{Held}
-use Rattle.mz_fit.specs.Names.{same_name}
-use Rattle.mz_fit.specs.Records.{call}
-use Rattle.mz_fit.specs.Standing.{Standing, caller_at, knowing}
-use Rattle.mz_fit.specs.Tasks.{Task, task_of}
-use Rattle.mz_fit.specs.Fitting.{IsAnswer, AreEntries, are_bytes_shown}
-use Rattle.mz_fit.specs.After.{changed, after_task}
+use Rattle.mz_lawful.specs.Names.{same_name}
+use Rattle.mz_lawful.specs.Records.{call}
+use Rattle.mz_lawful.specs.Standing.{Standing, caller_at, knowing}
+use Rattle.mz_lawful.specs.Tasks.{Task, task_of}
+use Rattle.mz_lawful.specs.Fitting.{IsAnswer, AreEntries, are_bytes_shown}
+use Rattle.mz_lawful.specs.After.{changed, after_task}
 use Rattle.mz_zone.specs.Blocks.{BlockView, block_of, with_block_bytes, IsAtSlotIf}
 use Rattle.mz_zone.specs.Calling.{AtView}
 use Rattle.mz_session.specs.declared.parcel.Parcel.{Parcel}

@@ -20,7 +20,7 @@ use Rattle.mz_events.specs.Rules.{Fits}
 use Rattle.mz_events.specs.History.{AreLawful, after_entry, after_all}
 use Rattle.mz_record.specs.Moments.{state_at}
 use Rattle.mz_record.specs.Zones.{zone_at, zone_of_block}
-use Rattle.mz_fit.specs.Settings.{above}
+use Rattle.mz_lawful.specs.Settings.{above}
 use Rattle.mz_book.specs.Account.{Account, IsOrderly, state_of, hand}
 use Rattle.mz_zone.specs.Blocks.{BlockView, block_of}
 use Rattle.mz_session.specs.SessionLaws.{SessionLaws}

@@ -4,7 +4,7 @@ use Rattle.mz_base.specs.Space.{Block, same_block}
 use Rattle.mz_events.specs.Changes.{one_for}
 use Rattle.mz_book.specs.Living.{times}
 use Rattle.mz_words.specs.declared.name.Name.{Name}
-use Rattle.mz_fit.specs.Names.{same_name}
+use Rattle.mz_lawful.specs.Names.{same_name}
 use Rattle.mz_zone.specs.Blocks.{BlockView, block_of}
 use Rattle.mz_session.specs.Names.{NamedBlocks, views_named, blocks_named, block_with}
 

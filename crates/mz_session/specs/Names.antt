@@ -5,7 +5,7 @@ use Rattle.std.specs.Ordering.{nat_cmp}
 use Rattle.std.specs.BTreeMap.{BTreeMap, get}
 use Rattle.mz_base.specs.Space.{Block}
 use Rattle.mz_words.specs.declared.name.Name.{Name}
-use Rattle.mz_fit.specs.Names.{same_name, batch_name}
+use Rattle.mz_lawful.specs.Names.{same_name, batch_name}
 use Rattle.mz_zone.specs.Blocks.{BlockView, block_of}
 
 -- names with their blocks, in the order of the names

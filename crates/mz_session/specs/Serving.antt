@@ -19,13 +19,13 @@ use Rattle.mz_record.specs.Dropped.{IsDropped}
 use Rattle.mz_record.specs.Resized.{IsReallocated}
 use Rattle.mz_record.specs.Moments.{state_at}
 use Rattle.mz_record.specs.Zones.{zone_of_block}
-use Rattle.mz_fit.specs.Records.{LineRecord, call}
-use Rattle.mz_fit.specs.Standing.{Standing, delivered}
-use Rattle.mz_fit.specs.Settings.{Setting, above, least_ticket}
-use Rattle.mz_fit.specs.Tasks.{is_alignment, is_wrong_size, request_of}
-use Rattle.mz_fit.specs.Fitting.{FitsRecord, is_rising_from}
-use Rattle.mz_fit.specs.After.{bytes_kept, after_record}
-use Rattle.mz_fit.specs.Tail.{listing_of, statistics_of}
+use Rattle.mz_lawful.specs.Records.{LineRecord, call}
+use Rattle.mz_lawful.specs.Standing.{Standing, delivered}
+use Rattle.mz_lawful.specs.Settings.{Setting, above, least_ticket}
+use Rattle.mz_lawful.specs.Tasks.{is_alignment, is_wrong_size, request_of}
+use Rattle.mz_lawful.specs.Fitting.{FitsRecord, is_rising_from}
+use Rattle.mz_lawful.specs.After.{bytes_kept, after_record}
+use Rattle.mz_lawful.specs.Tail.{listing_of, statistics_of}
 use Rattle.mz_book.specs.Account.{state_of}
 use Rattle.mz_rack.specs.declared.lot.Null.{Null}
 use Rattle.mz_zone.specs.declared.fault.CallocFault.{CallocFault}

@@ -8,8 +8,8 @@ use Rattle.mz_events.specs.State.{is_open}
 use Rattle.mz_words.specs.declared.name.Name.{Name}
 use Rattle.mz_words.specs.declared.name.Name.TheVariants.{Given}
 use Rattle.mz_record.specs.Bytes.{is_shown_as}
-use Rattle.mz_fit.specs.Names.{same_name}
-use Rattle.mz_fit.specs.Standing.{Holding, Gift, Standing, default_zone, caller_at, held_at, bytes_of}
+use Rattle.mz_lawful.specs.Names.{same_name}
+use Rattle.mz_lawful.specs.Standing.{Holding, Gift, Standing, default_zone, caller_at, held_at, bytes_of}
 use Rattle.mz_book.specs.Account.{HoldsNothing, state_of, hand}
 use Rattle.mz_book.specs.Living.{times}
 use Rattle.mz_zone.specs.declared.zone.Zone.{Zone}

@@ -20,7 +20,7 @@
 //! and what is written to one block stays in all others.
 //!
 //! To the crates above, this one promises of each command that its record fits: the entries that it adds to the history, its
-//! answer, and the bytes that it shows (`mz_fit` says which these are).
+//! answer, and the bytes that it shows (`mz_lawful` says which these are).
 #![tactic(auto)]
 
 mod block;

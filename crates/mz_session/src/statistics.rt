@@ -4,7 +4,7 @@ ghost use Rattle.std.specs.Prelude.{◌≡◌};
 ghost use Rattle.mz_base.specs.Limits.{IsWithinLimits};
 ghost use Rattle.mz_events.specs.State.{opening};
 ghost use Rattle.mz_events.specs.History.{AreLawful, after_all};
-ghost use Rattle.mz_fit.specs.Tail.{statistics_of};
+ghost use Rattle.mz_lawful.specs.Tail.{statistics_of};
 ghost use Rattle.mz_session.specs.StatisticsLaws.{StatisticsLaws};
 ghost use Rattle.mz_session.specs.Counting.{CanCount, statistics_with};
 

@@ -11,9 +11,9 @@ ghost use Rattle.mz_examples.specs.Edges.{two_callers};
 ghost use Rattle.mz_record.specs.Moments.{state_at};
 ghost use Rattle.mz_record.specs.Resized.{IsReallocated, IsHemmedIn};
 ghost use Rattle.mz_record.specs.Zones.{zone_of_block};
-ghost use Rattle.mz_fit.specs.Records.{entries_of};
-ghost use Rattle.mz_fit.specs.Settings.{low, high};
-ghost use Rattle.mz_fit.specs.LawfulRun.{placed_records};
+ghost use Rattle.mz_lawful.specs.Records.{entries_of};
+ghost use Rattle.mz_lawful.specs.Settings.{low, high};
+ghost use Rattle.mz_lawful.specs.LawfulRun.{placed_records};
 ghost use Rattle.mz_examples.specs.Spoiled.{AtRecord};
 ghost use Rattle.mz_examples.specs.RunsResized.{ResizesA, makes_a, grows, row_realloc, moves_away, shrinks, moves_behind, moves_to_least, no_small_region, neighbour_goes, moves_then, two_zones_for_two, with_opening, run_with_opening, run_with_none, own_goes, makes_c, moves_c, makes_d, no_seven_pages, moves_in_nano, grows_in_nano, moves_in_second, asks_other_zone, live_in};
 

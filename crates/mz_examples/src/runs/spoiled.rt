@@ -3,7 +3,7 @@
 ghost use Rattle.std.specs.Prelude.{ℕ};
 ghost use Rattle.mz_trace.specs.declared.trace.Trace.{Trace as trace};
 ghost use Rattle.mz_trace.specs.declared.run.Run.{Run as run};
-ghost use Rattle.mz_fit.specs.LawfulRun.{IsLawfulRun};
+ghost use Rattle.mz_lawful.specs.LawfulRun.{IsLawfulRun};
 ghost use Rattle.mz_examples.specs.Spoiled.{WrongAnswer, WrongEntries, WrongBytes, WrongOrder};
 
 /// Whichever part of a record is wrong, the run is no lawful run of any trace.

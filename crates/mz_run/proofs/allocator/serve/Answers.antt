@@ -11,8 +11,8 @@ use Rattle.mz_trace.specs.declared.trace.Trace.{Trace}
 use Rattle.mz_words.specs.Ranges.{is_listed_range}
 use Rattle.mz_trace.specs.RunForms.{IsRun}
 use Rattle.mz_trace.specs.TailTexts.{listed_fits}
-use Rattle.mz_fit.specs.LawfulRun.{IsLawfulRun, last_standing}
-use Rattle.mz_fit.specs.Tail.{tail_of}
+use Rattle.mz_lawful.specs.LawfulRun.{IsLawfulRun, last_standing}
+use Rattle.mz_lawful.specs.Tail.{tail_of}
 use Rattle.mz_run.specs.Built.{is_built_round}
 use Rattle.mz_run.proofs.BuiltLemmas.{built_numbers, rounds_built}
 use Rattle.mz_run.proofs.RunIsLawful.{run_is_lawful, none_coming, stands_last, tail_is}

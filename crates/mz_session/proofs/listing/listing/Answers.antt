@@ -1,7 +1,7 @@
 use Rattle.std.proofs.Common.{◌≡◌, subst, map}
 use Rattle.std.specs.Prelude.{IfSome}
 use Rattle.std.specs.List.Sorted.{IsPermutation}
-use Rattle.mz_fit.specs.Standing.{default_zone}
+use Rattle.mz_lawful.specs.Standing.{default_zone}
 use Rattle.mz_session.specs.Listing.{listed_in}
 use Rattle.mz_session.proofs.ListingLemmas.{is_listing}
 use Rattle.mz_session.proofs.listing.listing.Goals as goal

@@ -5,7 +5,7 @@ use Rattle.mz_events.specs.declared.event.Event.TheVariants.{Take}
 use Rattle.mz_events.specs.declared.place.Place.TheVariants.{Pages}
 use Rattle.mz_events.specs.State.{opening}
 use Rattle.mz_events.specs.History.{after_all}
-use Rattle.mz_fit.specs.Tail.{statistics_of}
+use Rattle.mz_lawful.specs.Tail.{statistics_of}
 use Rattle.mz_session.specs.Counting.{CanCount, statistics_with}
 use Rattle.mz_session.proofs.StatisticsLemmas.{can_count, counted, lawful_front, at_first}
 use Rattle.mz_session.proofs.statistics.statistics.Goals as goal

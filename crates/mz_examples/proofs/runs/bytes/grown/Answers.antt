@@ -1,7 +1,7 @@
 use Rattle.std.proofs.Common.{arith, refl, [], ◌∷◌, take, drop, inl}
 use Rattle.mz_record.specs.Served as way
 use Rattle.mz_record.specs.Resized as size
-use Rattle.mz_fit.specs.Records.{entries_of}
+use Rattle.mz_lawful.specs.Records.{entries_of}
 use Rattle.mz_examples.specs.Examples.{profile_of, magazine}
 use Rattle.mz_examples.specs.RunsRows.{first_block}
 use Rattle.mz_examples.specs.RunsBytes.{grown_shown}
@@ -14,7 +14,7 @@ use Rattle.mz_events.specs.Rules.{keeps}
 use Rattle.mz_events.specs.History.{after_all, by_ticket, first_breach}
 use Rattle.mz_events.specs.Separation.{by_address}
 use Rattle.mz_record.specs.Zones.{by_page}
-use Rattle.mz_fit.specs.Standing.{by_index}
+use Rattle.mz_lawful.specs.Standing.{by_index}
 use Rattle.mz_examples.proofs.runs.bytes.grown.Goals as goal
 
 pub returns-clause-lawful : goal.returns-clause-lawful

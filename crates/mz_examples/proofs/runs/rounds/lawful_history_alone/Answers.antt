@@ -1,6 +1,6 @@
 use Rattle.std.proofs.Common.{arith, refl}
 use Rattle.std.specs.List.{flat_map}
-use Rattle.mz_fit.specs.Records.{entries_of_round}
+use Rattle.mz_lawful.specs.Records.{entries_of_round}
 use Rattle.mz_events.specs.declared.event.Event.TheVariants as event
 use Rattle.mz_events.specs.Places.{spot_of}
 use Rattle.mz_examples.specs.Examples.{entry_of, magazine}

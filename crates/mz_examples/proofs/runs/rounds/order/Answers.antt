@@ -1,7 +1,7 @@
 use Rattle.std.proofs.Common.{refl, [], take, drop}
 use Rattle.std.specs.List.{flat_map}
 use Rattle.mz_record.specs.Served as way
-use Rattle.mz_fit.specs.Records.{entries_of, entries_of_round}
+use Rattle.mz_lawful.specs.Records.{entries_of, entries_of_round}
 use Rattle.mz_events.specs.declared.event.Event.TheVariants as event
 use Rattle.mz_examples.specs.Examples.{magazine}
 use Rattle.mz_examples.specs.Edges.{entry_of_other, two_callers}

@@ -3,7 +3,7 @@ use Rattle.std.proofs.lemmas.Bool.{false≢true}
 use Rattle.mz_base.specs.Space.{block_at}
 use Rattle.mz_record.specs.Served as way
 use Rattle.mz_record.specs.Resized as size
-use Rattle.mz_fit.specs.Records.{entries_of}
+use Rattle.mz_lawful.specs.Records.{entries_of}
 use Rattle.mz_events.specs.declared.event.Event.TheVariants as event
 use Rattle.mz_lines.specs.declared.answer.Answer.TheVariants as answers
 use Rattle.mz_examples.specs.Examples.{profile_of, entry_of, magazine}

@@ -1,6 +1,6 @@
 use Rattle.std.proofs.Common.{sym, ◌∙◌}
 use Rattle.std.proofs.lemmas.Bool.{false≢true}
-use Rattle.mz_fit.specs.LawfulRun.{placed_records}
+use Rattle.mz_lawful.specs.LawfulRun.{placed_records}
 use Rattle.mz_examples.specs.Spoiled.{IsWronglyAnswered, HasOtherEntries, ShowsOtherBytes, IsOutOfTurn}
 use Rattle.mz_examples.proofs.SpoiledRuns.{some_unfit}
 use Rattle.mz_examples.proofs.runs.spoiled.not_lawful.Goals as goal

@@ -1,6 +1,6 @@
 use Rattle.std.proofs.Common.{refl, [], ◌∷◌, take, drop}
 use Rattle.mz_record.specs.Served as way
-use Rattle.mz_fit.specs.Records.{entries_of}
+use Rattle.mz_lawful.specs.Records.{entries_of}
 use Rattle.mz_examples.specs.Examples.{magazine}
 use Rattle.mz_examples.specs.Edges.{two_callers}
 use Rattle.mz_examples.specs.RunsZones.{made_by_other, one_after_the_other}

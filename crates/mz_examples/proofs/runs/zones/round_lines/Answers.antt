@@ -1,6 +1,6 @@
 use Rattle.std.proofs.Common.{refl, [], ◌∷◌, take, drop}
 use Rattle.mz_record.specs.Served as way
-use Rattle.mz_fit.specs.Records.{entries_of}
+use Rattle.mz_lawful.specs.Records.{entries_of}
 use Rattle.mz_events.specs.declared.event.Event.TheVariants as event
 use Rattle.mz_events.specs.declared.place.Place.TheVariants as place
 use Rattle.mz_examples.specs.Examples.{entry_of}

@@ -1,6 +1,6 @@
 use Rattle.std.proofs.Common.{◌≡◌, ap, sym, subst, ◌∙◌, filter, None}
 use Rattle.std.specs.Bool.{then_some}
-use Rattle.mz_fit.specs.Names.{batch_name}
+use Rattle.mz_lawful.specs.Names.{batch_name}
 use Rattle.mz_session.specs.Names.{IsFirstInBatch}
 use Rattle.mz_session.proofs.OrderLemmas.{is_from, range-from, batch-none, batch-found, batch-other, IsElsewhere}
 use Rattle.mz_session.proofs.blocks.Blocks.first_in_batch.Goals as goal

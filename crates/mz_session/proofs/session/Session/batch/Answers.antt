@@ -1,5 +1,5 @@
 use Rattle.std.proofs.Common.{sym, subst, Ok, Err, arith}
-use Rattle.mz_fit.specs.Names.{batch_name}
+use Rattle.mz_lawful.specs.Names.{batch_name}
 use Rattle.mz_session.specs.Sessions.{SessionView}
 use Rattle.mz_session.specs.Serving.{Makes, Holds, IsFree}
 use Rattle.mz_session.proofs.CommandLemmas.{free-own}

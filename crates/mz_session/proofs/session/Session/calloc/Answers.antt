@@ -3,7 +3,7 @@ use Rattle.std.specs.Prelude.{◌^◌, nat_le}
 use Rattle.mz_words.specs.declared.name.Name.TheVariants.{Base}
 use Rattle.mz_lines.specs.declared.answer.Answer.TheVariants as answers
 use Rattle.mz_lines.specs.declared.command.Command.TheVariants.{Calloc}
-use Rattle.mz_fit.specs.Tasks.{refuse_if, serving, request_of}
+use Rattle.mz_lawful.specs.Tasks.{refuse_if, serving, request_of}
 use Rattle.mz_zone.specs.declared.fault.CallocFault.TheVariants as calloc
 use Rattle.mz_session.specs.Names.{block_with}
 use Rattle.mz_session.specs.Sessions.{SessionView}

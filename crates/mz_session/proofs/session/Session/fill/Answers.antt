@@ -5,7 +5,7 @@ use Rattle.std.proofs.lemmas.List.{length-replicate}
 use Rattle.mz_lines.specs.declared.answer.Answer.TheVariants as answers
 use Rattle.mz_lines.specs.declared.command.Command.TheVariants.{Fill}
 use Rattle.mz_record.specs.Bytes.{filled}
-use Rattle.mz_fit.specs.Tasks.{filling}
+use Rattle.mz_lawful.specs.Tasks.{filling}
 use Rattle.mz_zone.specs.Blocks.{BlockView, block_of, with_block_bytes}
 use Rattle.mz_session.specs.Names.{block_with}
 use Rattle.mz_session.specs.Changes.{AreWith}

@@ -1,7 +1,7 @@
 use Rattle.std.proofs.Common.{sym, subst}
 use Rattle.mz_lines.specs.declared.answer.Answer.TheVariants as answers
 use Rattle.mz_lines.specs.declared.command.Command.TheVariants.{Free}
-use Rattle.mz_fit.specs.Tasks.{dropping}
+use Rattle.mz_lawful.specs.Tasks.{dropping}
 use Rattle.mz_session.specs.Sessions.{SessionView}
 use Rattle.mz_session.specs.Serving.{Serves, setting_of}
 use Rattle.mz_session.proofs.RecordLemmas.{serves-dropped, serves-refused, with-none, with-some}

@@ -2,7 +2,7 @@ use Rattle.std.proofs.Common.{◌∙◌, ap, sym, subst}
 use Rattle.std.proofs.lemmas.Option.{none-some}
 use Rattle.mz_lines.specs.declared.answer.Answer.TheVariants as answers
 use Rattle.mz_lines.specs.declared.command.Command.TheVariants.{FreeAt}
-use Rattle.mz_fit.specs.Tasks.{dropping}
+use Rattle.mz_lawful.specs.Tasks.{dropping}
 use Rattle.mz_zone.specs.Blocks.{BlockView, block_of}
 use Rattle.mz_session.specs.Sessions.{SessionView}
 use Rattle.mz_session.specs.Serving.{Serves, setting_of}

@@ -1,7 +1,7 @@
 use Rattle.std.proofs.Common.{[], ◌∷◌, sym, subst, length, Ok, Err}
 use Rattle.mz_lines.specs.declared.answer.Answer.TheVariants as answers
 use Rattle.mz_lines.specs.declared.command.Command.TheVariants.{SizedFree}
-use Rattle.mz_fit.specs.Tasks.{refuse_if, dropping, is_wrong_size}
+use Rattle.mz_lawful.specs.Tasks.{refuse_if, dropping, is_wrong_size}
 use Rattle.mz_zone.specs.declared.fault.SizeFault.TheVariants as size
 use Rattle.mz_session.specs.Sessions.{SessionView, Keeps}
 use Rattle.mz_session.specs.Serving.{EndsOfSize, Holds, Serves, setting_of}

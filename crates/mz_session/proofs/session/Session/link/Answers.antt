@@ -5,8 +5,8 @@ use Rattle.std.proofs.lemmas.Bool.{leb-true, leb-false}
 use Rattle.mz_lines.specs.declared.answer.Answer.TheVariants as answers
 use Rattle.mz_lines.specs.declared.command.Command.TheVariants.{Link}
 use Rattle.mz_record.specs.Bytes.{low_bytes}
-use Rattle.mz_fit.specs.Standing.{caller_at}
-use Rattle.mz_fit.specs.Tasks.{with_held, refuse_if, linking}
+use Rattle.mz_lawful.specs.Standing.{caller_at}
+use Rattle.mz_lawful.specs.Tasks.{with_held, refuse_if, linking}
 use Rattle.mz_zone.specs.Blocks.{BlockView, with_block_bytes}
 use Rattle.mz_session.specs.Names.{block_with}
 use Rattle.mz_session.specs.Changes.{AreWith, written}

@@ -3,7 +3,7 @@ use Rattle.std.specs.Prelude.{max, not}
 use Rattle.mz_words.specs.declared.name.Name.TheVariants.{Base}
 use Rattle.mz_lines.specs.declared.answer.Answer.TheVariants as answers
 use Rattle.mz_lines.specs.declared.command.Command.TheVariants.{Memalign}
-use Rattle.mz_fit.specs.Tasks.{refuse_if, serving, is_alignment, request_of}
+use Rattle.mz_lawful.specs.Tasks.{refuse_if, serving, is_alignment, request_of}
 use Rattle.mz_zone.specs.declared.fault.AlignFault.TheVariants as align
 use Rattle.mz_session.specs.Names.{block_with}
 use Rattle.mz_session.specs.Sessions.{SessionView}

@@ -3,7 +3,7 @@ use Rattle.std.specs.Prelude.{◌⊎◌, is_some}
 use Rattle.std.proofs.lemmas.Bool.{false≢true}
 use Rattle.mz_lines.specs.declared.answer.Answer.TheVariants as answers
 use Rattle.mz_lines.specs.declared.command.Command.TheVariants.{Realloc}
-use Rattle.mz_fit.specs.Names.{same_name}
+use Rattle.mz_lawful.specs.Names.{same_name}
 use Rattle.mz_zone.specs.Blocks.{BlockView}
 use Rattle.mz_session.specs.Names.{block_with}
 use Rattle.mz_session.specs.Sessions.{SessionView}

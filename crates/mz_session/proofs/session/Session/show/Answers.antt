@@ -3,7 +3,7 @@ use Rattle.std.specs.Prelude.{nat_lt, nat_le, take, drop}
 use Rattle.std.proofs.lemmas.Bool.{cases_Bool, false≢true, leb-true, leb-false}
 use Rattle.mz_lines.specs.declared.answer.Answer.TheVariants as answers
 use Rattle.mz_lines.specs.declared.command.Command.TheVariants.{Show}
-use Rattle.mz_fit.specs.Tasks.{showing, refuse_if}
+use Rattle.mz_lawful.specs.Tasks.{showing, refuse_if}
 use Rattle.mz_zone.specs.Blocks.{BlockView}
 use Rattle.mz_session.specs.Names.{block_with}
 use Rattle.mz_session.specs.Sessions.{SessionView}

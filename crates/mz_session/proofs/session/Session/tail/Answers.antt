@@ -7,7 +7,7 @@ use Rattle.mz_book.specs.Rule.{KeepsRule}
 use Rattle.mz_trace.specs.declared.tail.Figures.{Figures}
 use Rattle.mz_trace.specs.declared.tail.Listed.{Listed}
 use Rattle.mz_trace.specs.declared.tail.Statistics.{Statistics}
-use Rattle.mz_fit.specs.Tail.{listing_of, statistics_of}
+use Rattle.mz_lawful.specs.Tail.{listing_of, statistics_of}
 use Rattle.mz_session.specs.Names.{blocks_named}
 use Rattle.mz_session.specs.Listing.{AreLive}
 use Rattle.mz_session.specs.Sessions.{SessionView, IsForOne, IsKept}

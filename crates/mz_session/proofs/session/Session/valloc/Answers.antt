@@ -3,7 +3,7 @@ use Rattle.mz_base.specs.declared.range.TheConstants.{PAGE}
 use Rattle.mz_words.specs.declared.name.Name.TheVariants.{Base}
 use Rattle.mz_lines.specs.declared.answer.Answer.TheVariants as answers
 use Rattle.mz_lines.specs.declared.command.Command.TheVariants.{Valloc}
-use Rattle.mz_fit.specs.Tasks.{serving, request_of}
+use Rattle.mz_lawful.specs.Tasks.{serving, request_of}
 use Rattle.mz_session.specs.Names.{block_with}
 use Rattle.mz_session.specs.Sessions.{SessionView}
 use Rattle.mz_session.specs.Serving.{Makes, Holds, Serves, setting_of}

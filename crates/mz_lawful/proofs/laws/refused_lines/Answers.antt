@@ -1,5 +1,5 @@
-use Rattle.mz_fit.proofs.AnswerLemmas.{refused_answer, refused_entries, refused_standing}
-use Rattle.mz_fit.proofs.laws.refused_lines.Goals as goal
+use Rattle.mz_lawful.proofs.AnswerLemmas.{refused_answer, refused_entries, refused_standing}
+use Rattle.mz_lawful.proofs.laws.refused_lines.Goals as goal
 
 pub returns-clause-answer : goal.returns-clause-answer
 returns-clause-answer c = refused_answer

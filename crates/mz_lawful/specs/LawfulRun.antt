@@ -7,11 +7,11 @@ use Rattle.mz_trace.specs.declared.run.RunRound.{RunRound}
 use Rattle.mz_trace.specs.declared.run.Run.{Run}
 use Rattle.mz_trace.specs.declared.trace.Trace.{Trace}
 use Rattle.mz_trace.specs.RunTexts.{trace_of}
-use Rattle.mz_fit.specs.Records.{LineRecord, start_records, call_records, entries_of_round, entries_of}
-use Rattle.mz_fit.specs.Standing.{Standing, first_standing, delivered}
-use Rattle.mz_fit.specs.Settings.{Setting}
-use Rattle.mz_fit.specs.After.{after_record}
-use Rattle.mz_fit.specs.Fitting.{FitsRecord}
+use Rattle.mz_lawful.specs.Records.{LineRecord, start_records, call_records, entries_of_round, entries_of}
+use Rattle.mz_lawful.specs.Standing.{Standing, first_standing, delivered}
+use Rattle.mz_lawful.specs.Settings.{Setting}
+use Rattle.mz_lawful.specs.After.{after_record}
+use Rattle.mz_lawful.specs.Fitting.{FitsRecord}
 
 -- a record in its place in a run
 pub record Placed : Type 0 where

@@ -5,7 +5,7 @@ use Rattle.mz_events.specs.declared.entry.Entry.{Entry}
 use Rattle.mz_events.specs.Hands.{own}
 use Rattle.mz_events.specs.State.{State}
 use Rattle.mz_record.specs.Moments.{state_at}
-use Rattle.mz_fit.specs.Standing.{Standing}
+use Rattle.mz_lawful.specs.Standing.{Standing}
 
 -- The profile and all entries of the run, in the order of its text; those that have to come before the line, with lower
 -- tickets; and what stands when the line is reached. Before a line at the start of a round come all earlier rounds and the

@@ -1,5 +1,5 @@
-use Rattle.mz_fit.proofs.PartLemmas.{records_in_parts, rounds_in_parts}
-use Rattle.mz_fit.proofs.laws.in_parts.Goals as goal
+use Rattle.mz_lawful.proofs.PartLemmas.{records_in_parts, rounds_in_parts}
+use Rattle.mz_lawful.proofs.laws.in_parts.Goals as goal
 
 pub returns-clause-records : goal.returns-clause-records
 returns-clause-records c = records_in_parts

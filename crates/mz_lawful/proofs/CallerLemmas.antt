@@ -2,7 +2,7 @@
 use Rattle.std.proofs.Common.{◌≡◌, ℕ, false, Bool, List, [], ◌∷◌, Option, Some, None, ap, sym, refl, ◌∙◌, inl, inr}
 use Rattle.std.specs.Prelude.{◌==◌, ◌≢◌, not, filter, find, cond}
 use Rattle.std.proofs.lemmas.Bool.{eq-eqb, eqb-true, cases_Bool}
-use Rattle.mz_fit.specs.Standing.{Caller, Standing, newcomer, caller_at, with_caller}
+use Rattle.mz_lawful.specs.Standing.{Caller, Standing, newcomer, caller_at, with_caller}
 
 -- the caller that is found, or a newcomer
 abbrev found : Option (ℕ × Caller) → Caller

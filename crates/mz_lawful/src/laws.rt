@@ -4,13 +4,13 @@ ghost use Rattle.std.specs.Prelude.{◌≡◌, ◌≢◌, ◌++◌, ◌⊎◌, �
 ghost use Rattle.mz_events.specs.declared.entry.Entry.{Entry as entry};
 ghost use Rattle.mz_lines.specs.declared.answer.Answer.{Answer as answer};
 ghost use Rattle.mz_trace.specs.declared.run.RunRound.{RunRound as run_round};
-ghost use Rattle.mz_fit.specs.Records.{LineRecord};
-ghost use Rattle.mz_fit.specs.Standing.{Caller, Standing, caller_at, with_caller};
-ghost use Rattle.mz_fit.specs.Settings.{Setting};
-ghost use Rattle.mz_fit.specs.Tasks.{Task, refused, task_of};
-ghost use Rattle.mz_fit.specs.Fitting.{ShowsSome, IsAnswer, FitsRecord};
-ghost use Rattle.mz_fit.specs.After.{after_record};
-ghost use Rattle.mz_fit.specs.LawfulRun.{placed, behind_all, placed_rounds, after_rounds};
+ghost use Rattle.mz_lawful.specs.Records.{LineRecord};
+ghost use Rattle.mz_lawful.specs.Standing.{Caller, Standing, caller_at, with_caller};
+ghost use Rattle.mz_lawful.specs.Settings.{Setting};
+ghost use Rattle.mz_lawful.specs.Tasks.{Task, refused, task_of};
+ghost use Rattle.mz_lawful.specs.Fitting.{ShowsSome, IsAnswer, FitsRecord};
+ghost use Rattle.mz_lawful.specs.After.{after_record};
+ghost use Rattle.mz_lawful.specs.LawfulRun.{placed, behind_all, placed_rounds, after_rounds};
 
 /// A caller is as it was last left, whatever was done to others.
 pub fn callers_apart()

@@ -12,9 +12,9 @@ use Rattle.mz_trace.specs.declared.tail.Figures.{Figures}
 use Rattle.mz_trace.specs.declared.tail.Statistics.{Statistics}
 use Rattle.mz_record.specs.Listing.{range_of, blocks_by_address, blocks_in_use, size_in_use, max_size_in_use, size_allocated}
 use Rattle.mz_record.specs.Zones.{zone_at}
-use Rattle.mz_fit.specs.Records.{entries_of}
-use Rattle.mz_fit.specs.Standing.{Standing, zone_name}
-use Rattle.mz_fit.specs.LawfulRun.{last_standing}
+use Rattle.mz_lawful.specs.Records.{entries_of}
+use Rattle.mz_lawful.specs.Standing.{Standing, zone_name}
+use Rattle.mz_lawful.specs.LawfulRun.{last_standing}
 
 -- a live block of a spot, as it is listed
 abbrev pub listed : Standing → Spot × Block → Listed

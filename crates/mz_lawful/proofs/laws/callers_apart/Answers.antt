@@ -1,5 +1,5 @@
-use Rattle.mz_fit.proofs.CallerLemmas.{own_is_found, others_are_found}
-use Rattle.mz_fit.proofs.laws.callers_apart.Goals as goal
+use Rattle.mz_lawful.proofs.CallerLemmas.{own_is_found, others_are_found}
+use Rattle.mz_lawful.proofs.laws.callers_apart.Goals as goal
 
 pub returns-clause-own : goal.returns-clause-own
 returns-clause-own c = own_is_found

@@ -20,10 +20,10 @@ use Rattle.mz_words.specs.declared.name.Name.TheVariants as names
 use Rattle.mz_events.specs.State.{State}
 use Rattle.mz_record.specs.Served.{Request}
 use Rattle.mz_record.specs.Zones.{zone_at, zone_of_block, live_from, live_in_zone}
-use Rattle.mz_fit.specs.Names.{same_name}
-use Rattle.mz_fit.specs.Records.{Line, start, call}
-use Rattle.mz_fit.specs.Standing.{Holding, Caller, Standing, caller_at, zone_number, zone_name, lowest_closed, held_at, held_from, is_held, is_batch_held, batch_held}
-use Rattle.mz_fit.specs.Settings.{Setting, now}
+use Rattle.mz_lawful.specs.Names.{same_name}
+use Rattle.mz_lawful.specs.Records.{Line, start, call}
+use Rattle.mz_lawful.specs.Standing.{Holding, Caller, Standing, caller_at, zone_number, zone_name, lowest_closed, held_at, held_from, is_held, is_batch_held, batch_held}
+use Rattle.mz_lawful.specs.Settings.{Setting, now}
 
 -- What a line is to do.
 pub data Task : Type 0 where

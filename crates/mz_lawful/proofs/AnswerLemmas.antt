@@ -2,11 +2,11 @@
 use Rattle.std.proofs.Common.{◌≡◌, ℕ, List, sym, ◌∙◌, inl, inr, ◌⊎◌, ap, subst, []}
 use Rattle.mz_events.specs.declared.entry.Entry.{Entry}
 use Rattle.mz_lines.specs.declared.answer.Answer.{Answer}
-use Rattle.mz_fit.specs.Records.{LineRecord, caller_of}
-use Rattle.mz_fit.specs.Settings.{Setting}
-use Rattle.mz_fit.specs.Tasks.{Task, refused, serving, resizing, dropping, denying, telling, filling, showing, linking, giving, batching, unbatching, using, opening_zone, destroying_zone, task_of}
-use Rattle.mz_fit.specs.Fitting.{ShowsSome, IsAnswer, AreEntries, FitsRecord}
-use Rattle.mz_fit.specs.After.{after_task, after_record}
+use Rattle.mz_lawful.specs.Records.{LineRecord, caller_of}
+use Rattle.mz_lawful.specs.Settings.{Setting}
+use Rattle.mz_lawful.specs.Tasks.{Task, refused, serving, resizing, dropping, denying, telling, filling, showing, linking, giving, batching, unbatching, using, opening_zone, destroying_zone, task_of}
+use Rattle.mz_lawful.specs.Fitting.{ShowsSome, IsAnswer, AreEntries, FitsRecord}
+use Rattle.mz_lawful.specs.After.{after_task, after_record}
 
 pub one_answer_of : (task : Task) (es : List Entry) (a b : Answer) → IsAnswer task es a → IsAnswer task es b → (a ≡ b) ⊎ ((count : ℕ) × ShowsSome count a × ShowsSome count b)
 one_answer_of (refused x) es a b one two = inl (one ∙ sym two)

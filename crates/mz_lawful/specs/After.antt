@@ -6,11 +6,11 @@ use Rattle.mz_words.specs.declared.name.Name.{Name}
 use Rattle.mz_record.specs.Bytes.{Bytes, fresh, cleared, filled, linked, kept_in_place, kept_in_move}
 use Rattle.mz_record.specs.Served.{blocks_made, first_made}
 use Rattle.mz_record.specs.Resized.{reallocated}
-use Rattle.mz_fit.specs.Names.{batch_name}
-use Rattle.mz_fit.specs.Records.{LineRecord, caller_of}
-use Rattle.mz_fit.specs.Standing.{Holding, Caller, Standing, caller_at, with_caller, bytes_of, with_gift, with_name, without_name, forgetting, knowing}
-use Rattle.mz_fit.specs.Settings.{Setting}
-use Rattle.mz_fit.specs.Tasks.{Task, refused, serving, resizing, dropping, denying, telling, filling, showing, linking, giving, batching, unbatching, using, opening_zone, destroying_zone, task_of}
+use Rattle.mz_lawful.specs.Names.{batch_name}
+use Rattle.mz_lawful.specs.Records.{LineRecord, caller_of}
+use Rattle.mz_lawful.specs.Standing.{Holding, Caller, Standing, caller_at, with_caller, bytes_of, with_gift, with_name, without_name, forgetting, knowing}
+use Rattle.mz_lawful.specs.Settings.{Setting}
+use Rattle.mz_lawful.specs.Tasks.{Task, refused, serving, resizing, dropping, denying, telling, filling, showing, linking, giving, batching, unbatching, using, opening_zone, destroying_zone, task_of}
 
 -- a caller that was served a block, if it was: the block has the name, and its first bytes are 0
 abbrev pub with_served : Name → ℕ → Option Block → Caller → Caller

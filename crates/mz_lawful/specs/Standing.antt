@@ -10,7 +10,7 @@ use Rattle.mz_base.specs.Space.{Block, same_block}
 use Rattle.mz_words.specs.declared.count.TheConstants.{MOST_IN_BATCH}
 use Rattle.mz_words.specs.declared.name.Name.{Name}
 use Rattle.mz_record.specs.Bytes.{Bytes, fresh}
-use Rattle.mz_fit.specs.Names.{same_name, is_in_batch, index_of}
+use Rattle.mz_lawful.specs.Names.{same_name, is_in_batch, index_of}
 
 -- a name with its block
 pub record Holding : Type 0 where

@@ -10,10 +10,10 @@ use Rattle.mz_record.specs.Dropped.{IsDropped, DropInTurn, IsNotOfZone}
 use Rattle.mz_record.specs.Resized.{IsReallocated, reallocated}
 use Rattle.mz_record.specs.Zones.{zone_of_block, destroying}
 use Rattle.mz_record.specs.Bytes.{shows}
-use Rattle.mz_fit.specs.Records.{LineRecord, caller_of}
-use Rattle.mz_fit.specs.Standing.{Caller, caller_at, bytes_of}
-use Rattle.mz_fit.specs.Settings.{Setting, low, high, now}
-use Rattle.mz_fit.specs.Tasks.{Task, refused, serving, resizing, dropping, denying, telling, filling, showing, linking, giving, batching, unbatching, using, opening_zone, destroying_zone, task_of}
+use Rattle.mz_lawful.specs.Records.{LineRecord, caller_of}
+use Rattle.mz_lawful.specs.Standing.{Caller, caller_at, bytes_of}
+use Rattle.mz_lawful.specs.Settings.{Setting, low, high, now}
+use Rattle.mz_lawful.specs.Tasks.{Task, refused, serving, resizing, dropping, denying, telling, filling, showing, linking, giving, batching, unbatching, using, opening_zone, destroying_zone, task_of}
 
 -- the answer that gives a block, or none
 abbrev pub block_answer : Option Block → Answer

@@ -1,9 +1,9 @@
 -- Records and rounds in parts.
 use Rattle.std.proofs.Common.{◌≡◌, List, [], ◌∷◌, ◌++◌, ap, sym, refl, ◌∙◌, append_assoc}
 use Rattle.mz_trace.specs.declared.run.RunRound.{RunRound}
-use Rattle.mz_fit.specs.Records.{LineRecord}
-use Rattle.mz_fit.specs.Settings.{Setting}
-use Rattle.mz_fit.specs.LawfulRun.{Placed, behind, placed, behind_all, placed_round, after_round, placed_rounds, after_rounds}
+use Rattle.mz_lawful.specs.Records.{LineRecord}
+use Rattle.mz_lawful.specs.Settings.{Setting}
+use Rattle.mz_lawful.specs.LawfulRun.{Placed, behind, placed, behind_all, placed_round, after_round, placed_rounds, after_rounds}
 
 pub records_in_parts : (s : Setting) (front back : List LineRecord) → placed s (front ++ back) ≡ placed s front ++ placed (behind_all s front) back
 records_in_parts s [] back = refl

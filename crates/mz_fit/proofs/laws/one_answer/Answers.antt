@@ -1,5 +1,0 @@
-use Rattle.mz_fit.proofs.AnswerLemmas.{one_answer_of}
-use Rattle.mz_fit.proofs.laws.one_answer.Goals as goal
-
-pub returns : goal.returns
-returns c = one_answer_of

@@ -78,19 +78,21 @@ pub flipped : (b : Bool) → b ≡ true → not b ≡ true → ⊥
 flipped b holds denied = false≢true (sym (ap not holds) ∙ denied)
 
 pub undisturbed_by_test : (p : Profile) (h : List Entry) (c : ℕ) (es : List Entry) → no_harm p h c es ≡ true → IsUndisturbed p h c es
-undisturbed_by_test p h c es harmless e d x j at_e at_d dry at_x after before here there =
-    let of_e = all_at (λ a. list_all (λ b. list_all (λ y. is_no_harm p c a b y) h) es) es e harmless at_e in
-    let of_d = all_at (λ b. list_all (λ y. is_no_harm p c e b y) h) es d of_e at_d in
+undisturbed_by_test p h c es harmless x j at_x there within =
+    let e = within.earlier in
+    let d = within.dry in
+    let of_e = all_at (λ a. list_all (λ b. list_all (λ y. is_no_harm p c a b y) h) es) es e harmless within.has_earlier in
+    let of_d = all_at (λ b. list_all (λ y. is_no_harm p c e b y) h) es d of_e within.has_dry in
     let of_x : is_no_harm p c e d x ≡ true = all_at (λ y. is_no_harm p c e d y) h x of_d at_x in
     elim (or_cases (x.caller == c) _ of_x) [
       | inl mine ↦ eqb-true x.caller c mine
       | inr o1 ↦ elim (or_cases (not (is_dry d.event)) _ o1) [
-        | inl denied ↦ absurd (flipped (is_dry d.event) dry denied)
+        | inl denied ↦ absurd (flipped (is_dry d.event) within.is_dry denied)
         | inr o2 ↦ elim (or_cases (not (nat_lt e.ticket x.ticket)) _ o2) [
-          | inl denied ↦ absurd (flipped (nat_lt e.ticket x.ticket) (lt-ltb e.ticket x.ticket after) denied)
+          | inl denied ↦ absurd (flipped (nat_lt e.ticket x.ticket) (lt-ltb e.ticket x.ticket within.behind) denied)
           | inr o3 ↦ elim (or_cases (not (nat_lt x.ticket d.ticket)) _ o3) [
-            | inl denied ↦ absurd (flipped (nat_lt x.ticket d.ticket) (lt-ltb x.ticket d.ticket before) denied)
-            | inr other ↦ absurd (not_other (touched p e.event) (touched p x.event) j other here there)
+            | inl denied ↦ absurd (flipped (nat_lt x.ticket d.ticket) (lt-ltb x.ticket d.ticket within.before) denied)
+            | inr other ↦ absurd (not_other (touched p e.event) (touched p x.event) j other within.touched there)
           ]
         ]
       ]

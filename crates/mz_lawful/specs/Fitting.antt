@@ -7,11 +7,11 @@ use Rattle.mz_lines.specs.declared.answer.Answer.{Answer}
 use Rattle.mz_lines.specs.declared.answer.Answer.TheVariants as answers
 use Rattle.mz_record.specs.Served.{events, blocks_made, first_made, Serves, ServeInTurn}
 use Rattle.mz_record.specs.Dropped.{IsDropped, DropInTurn, IsNotOfZone}
-use Rattle.mz_record.specs.Resized.{IsReallocated, reallocated}
-use Rattle.mz_record.specs.Zones.{zone_of_block, destroying}
+use Rattle.mz_record.specs.Resized.{Resize, IsReallocated, reallocated}
+use Rattle.mz_record.specs.Zones.{destroying}
 use Rattle.mz_record.specs.Bytes.{shows}
 use Rattle.mz_lawful.specs.Records.{LineRecord, caller_of}
-use Rattle.mz_lawful.specs.Standing.{Caller, caller_at, bytes_of}
+use Rattle.mz_lawful.specs.Standing.{Holding, Caller, caller_at, bytes_of}
 use Rattle.mz_lawful.specs.Settings.{Setting, low, high, now}
 use Rattle.mz_lawful.specs.Tasks.{Task, refused, serving, resizing, dropping, denying, telling, filling, showing, linking, giving, batching, unbatching, using, opening_zone, destroying_zone, task_of}
 
@@ -30,38 +30,37 @@ pub record ShowsSome (count : ℕ) (answer : Answer) : Type 0 where
 abbrev pub IsAnswer : Task → List Entry → Answer → Type 0
 IsAnswer (refused a) es answer = answer ≡ a
 IsAnswer (serving name q clear) es answer = answer ≡ block_answer (first_made es)
-IsAnswer (resizing old new b n) es answer = answer ≡ block_answer (reallocated b es)
-IsAnswer (dropping name b) es answer = answer ≡ answers.Done
+IsAnswer (resizing name h n) es answer = answer ≡ block_answer (reallocated h.block es)
+IsAnswer (dropping h) es answer = answer ≡ answers.Done
 IsAnswer (denying z b) es answer = answer ≡ answers.NotLive
 IsAnswer (telling a) es answer = answer ≡ a
 IsAnswer (filling b byte) es answer = answer ≡ answers.Done
 IsAnswer (showing b off count) es answer = ShowsSome count answer
 IsAnswer (linking b off a) es answer = answer ≡ answers.Done
-IsAnswer (giving name b to given) es answer = answer ≡ answers.Done
+IsAnswer (giving h to given) es answer = answer ≡ answers.Done
 IsAnswer (batching base count q) es answer = answer ≡ answers.Got (length (blocks_made es))
 IsAnswer (unbatching hs) es answer = answer ≡ answers.Freed (length hs)
 IsAnswer (using zone) es answer = answer ≡ answers.Done
 IsAnswer (opening_zone z name) es answer = answer ≡ answers.Done
 IsAnswer (destroying_zone z) es answer = answer ≡ answers.Done
 
--- caller c gives the block n bytes, in the block's own zone
-pub record IsReallocatedInZone (s : Setting) (c : ℕ) (b : Block) (n : ℕ) (es : List Entry) : Type 0 where
-  pub z : ℕ
-  pub zone : zone_of_block (now s) b ≡ Some z
-  pub entries : IsReallocated s.profile s.history (low s) (high s c) c z b n es (reallocated b es)
+-- Caller c gives the held block n bytes, in the block's own zone: after all that has to come before the line, and before all that it does
+-- from the line on.
+abbrev pub resize_of : Setting → ℕ → Holding → ℕ → Resize
+resize_of s c h n = record { caller = c; zone = h.zone; block = h.block; bytes = n; low = low s; high = high s c }
 
 -- The entries are just those of the task, done by caller c.
 abbrev pub AreEntries : Setting → ℕ → Task → List Entry → Type 0
 AreEntries s c (refused a) es = es ≡ []
 AreEntries s c (serving name q clear) es = Serves s.profile s.history q es (first_made es)
-AreEntries s c (resizing old new b n) es = IsReallocatedInZone s c b n es
-AreEntries s c (dropping name b) es = IsDropped s.profile s.history b es
+AreEntries s c (resizing name h n) es = IsReallocated s.profile s.history (resize_of s c h n) es (reallocated h.block es)
+AreEntries s c (dropping h) es = IsDropped s.profile s.history h.block es
 AreEntries s c (denying z b) es = IsNotOfZone z b es
 AreEntries s c (telling a) es = es ≡ []
 AreEntries s c (filling b byte) es = es ≡ []
 AreEntries s c (showing b off count) es = es ≡ []
 AreEntries s c (linking b off a) es = es ≡ []
-AreEntries s c (giving name b to given) es = es ≡ []
+AreEntries s c (giving h to given) es = es ≡ []
 AreEntries s c (batching base count q) es = ServeInTurn s.profile s.history q count es
 AreEntries s c (unbatching hs) es = DropInTurn s.profile s.history (map (λ h. h.block) hs) es
 AreEntries s c (using zone) es = es ≡ []

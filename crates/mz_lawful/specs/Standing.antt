@@ -12,10 +12,11 @@ use Rattle.mz_words.specs.declared.name.Name.{Name}
 use Rattle.mz_record.specs.Bytes.{Bytes, fresh}
 use Rattle.mz_lawful.specs.Names.{same_name, is_in_batch, index_of}
 
--- a name with its block
+-- a name with its block, and the zone in which the block was served
 pub record Holding : Type 0 where
   pub name : Name
   pub block : Block
+  pub zone : ℕ
 
 -- A caller: the names that it holds, its zone's name, and what it knows of the bytes of its blocks. Bytes are those of a
 -- live block and not of a name; of a block that isn't there nothing is known.
@@ -27,8 +28,7 @@ pub record Caller : Type 0 where
 -- a block on its way to a caller, that is to have it under this name
 pub record Gift : Type 0 where
   pub to : ℕ
-  pub name : Name
-  pub block : Block
+  pub holding : Holding
   pub bytes : Bytes
 
 -- The names of the open zones by number, the callers by number, and the gifts of this round, in order. A caller that isn't
@@ -69,14 +69,14 @@ zone_name v z = elim (find (λ x. x.0 == z) v.zones) [ None ↦ [] | Some x ↦ 
 abbrev pub lowest_closed : Profile → Standing → Option ℕ
 lowest_closed p v = find (λ z. not (list_any (λ x. x.0 == z) v.zones)) (range_with_len 0 p.zones)
 
--- the block that a name has, or none
-abbrev pub held_at : Caller → Name → Option Block
-held_at me name = option_map (λ h. h.block) (find (λ h. same_name h.name name) me.held)
+-- what a caller holds under a name, or none
+abbrev pub held_at : Caller → Name → Option Holding
+held_at me name = find (λ h. same_name h.name name) me.held
 
 abbrev pub is_held : Caller → Name → Bool
 is_held me name = is_some (held_at me name)
 
--- the name whose block begins at the address, with the block, or none
+-- what it holds of which the block begins at the address, or none
 abbrev pub held_from : Caller → ℕ → Option Holding
 held_from me a = find (λ h. h.block.first == a) me.held
 
@@ -96,9 +96,9 @@ batch_held me base = by_index (filter (λ h. is_in_batch base MOST_IN_BATCH h.na
 abbrev pub bytes_of : Caller → Block → Bytes
 bytes_of me b = elim (find (λ x. same_block b x.0) me.known) [ None ↦ fresh b.size | Some x ↦ x.1 ]
 
--- the caller that holds the block under the name, too
-abbrev pub with_name : Name → Block → Caller → Caller
-with_name name b me = record me { held = record { name = name; block = b } ∷ me.held }
+-- the caller that holds this, too
+abbrev pub holding : Holding → Caller → Caller
+holding h me = record me { held = h ∷ me.held }
 
 -- and the caller that no longer holds the name
 abbrev pub without_name : Name → Caller → Caller
@@ -118,7 +118,7 @@ with_gift g v = record v { gifts = v.gifts ++ g ∷ [] }
 
 -- the gift has come
 abbrev pub received : Standing → Gift → Standing
-received v g = with_caller g.to (knowing g.block g.bytes (with_name g.name g.block (caller_at v g.to))) v
+received v g = with_caller g.to (knowing g.holding.block g.bytes (holding g.holding (caller_at v g.to))) v
 
 -- what stands after the end of a round: all gifts have come, in order
 abbrev pub delivered : Standing → Standing

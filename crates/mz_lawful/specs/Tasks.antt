@@ -19,7 +19,7 @@ use Rattle.mz_words.specs.declared.name.Name.{Name}
 use Rattle.mz_words.specs.declared.name.Name.TheVariants as names
 use Rattle.mz_events.specs.State.{State}
 use Rattle.mz_record.specs.Served.{Request}
-use Rattle.mz_record.specs.Zones.{zone_at, zone_of_block, live_from, live_in_zone}
+use Rattle.mz_record.specs.Zones.{zone_at, live_from, live_in_zone}
 use Rattle.mz_lawful.specs.Names.{same_name}
 use Rattle.mz_lawful.specs.Records.{Line, start, call}
 use Rattle.mz_lawful.specs.Standing.{Holding, Caller, Standing, caller_at, zone_number, zone_name, lowest_closed, held_at, held_from, is_held, is_batch_held, batch_held}
@@ -31,10 +31,10 @@ pub data Task : Type 0 where
   refused : Answer → Task
   -- a request is to be served, the block gets the name, and its first bytes, so many, are 0
   serving : Name → Request → ℕ → Task
-  -- the block is to have n bytes, and the second name in place of the first
-  resizing : Name → Name → Block → ℕ → Task
-  -- the block is to end, and the name with it
-  dropping : Name → Block → Task
+  -- the held block is to have n bytes, and the name in place of the one it has
+  resizing : Name → Holding → ℕ → Task
+  -- the held block is to end, and its name with it
+  dropping : Holding → Task
   -- it is to be said that the block isn't one of the zone
   denying : ℕ → Block → Task
   -- nothing, but that this is answered
@@ -45,8 +45,8 @@ pub data Task : Type 0 where
   showing : Block → ℕ → ℕ → Task
   -- at an offset, an address is to be written into the block
   linking : Block → ℕ → ℕ → Task
-  -- the block goes from the name to a caller, and has another name there
-  giving : Name → Block → ℕ → Name → Task
+  -- the held block goes to a caller, and has another name there
+  giving : Holding → ℕ → Name → Task
   -- requests are to be served, so many, and the blocks get names of the batch
   batching : List ℕ → ℕ → Request → Task
   -- these are to end, one after another
@@ -66,9 +66,9 @@ refuse_if test answer task = if test then refused answer else task
 abbrev pub in_zone : Standing → List ℕ → (ℕ → Task) → Task
 in_zone v name task = elim (zone_number v name) [ None ↦ refused answers.NoZone | Some z ↦ task z ]
 
--- it is refused where the caller doesn't hold the name; else this is done with the block
-abbrev pub with_held : Caller → Name → (Block → Task) → Task
-with_held me name task = elim (held_at me name) [ None ↦ refused answers.NotHeld | Some b ↦ task b ]
+-- it is refused where the caller doesn't hold the name; else this is done with what it holds
+abbrev pub with_held : Caller → Name → (Holding → Task) → Task
+with_held me name task = elim (held_at me name) [ None ↦ refused answers.NotHeld | Some h ↦ task h ]
 
 -- the numbers at whose multiples blocks can be asked for: the powers of two from 8 to 16,384
 abbrev pub is_alignment : ℕ → Bool
@@ -105,15 +105,15 @@ abbrev pub resize : Standing → ℕ → Option Name → Name → ℕ → Task
 resize v c None new n = plain v c new n
 resize v c (Some old) new n =
     let me = caller_at v c in
-    with_held me old (λ b. refuse_if (not (same_name new old) && is_held me new) answers.Held (resizing old new b n))
+    with_held me old (λ h. refuse_if (not (same_name new old) && is_held me new) answers.Held (resizing new h n))
 
 -- the end of the block that begins at an address
 abbrev pub drop_from : Caller → ℕ → Task
-drop_from me a = elim (held_from me a) [ None ↦ refused answers.NotHeld | Some h ↦ dropping h.name h.block ]
+drop_from me a = elim (held_from me a) [ None ↦ refused answers.NotHeld | Some h ↦ dropping h ]
 
--- the end of a block, if it is one of zone z
-abbrev pub drop_in_zone : State → ℕ → Name → Block → Task
-drop_in_zone s z name b = elim (zone_of_block s b) [ None ↦ denying z b | Some y ↦ if y == z then dropping name b else denying z b ]
+-- the end of a held block, if it was served in zone z
+abbrev pub drop_in_zone : ℕ → Holding → Task
+drop_in_zone z h = if h.zone == z then dropping h else denying z h.block
 
 -- what a command by caller c is to do
 abbrev pub task_of_call : Setting → ℕ → Command → Task
@@ -127,19 +127,19 @@ task_of_call s c (Memalign name al n) =
     with_new s.standing (caller_at s.standing c) (names.Base name)
     (λ z. refuse_if (not (is_alignment al)) answers.BadAlign (serving (names.Base name) (request_of c z n (max al 16)) 0))
 task_of_call s c (Realloc names n) = resize s.standing c (old_name names) (new_name names) n
-task_of_call s c (Free name) = with_held (caller_at s.standing c) name (λ b. dropping name b)
-task_of_call s c (FreeAt name off) = let me = caller_at s.standing c in with_held me name (λ b. drop_from me (b.first + off))
-task_of_call s c (ZoneFree zone name) = with_held (caller_at s.standing c) name (λ b. in_zone s.standing zone (λ z. drop_in_zone (now s) z name b))
+task_of_call s c (Free name) = with_held (caller_at s.standing c) name dropping
+task_of_call s c (FreeAt name off) = let me = caller_at s.standing c in with_held me name (λ h. drop_from me (h.block.first + off))
+task_of_call s c (ZoneFree zone name) = with_held (caller_at s.standing c) name (λ h. in_zone s.standing zone (λ z. drop_in_zone z h))
 task_of_call s c (SizedFree name n) =
-    with_held (caller_at s.standing c) name (λ b. refuse_if (is_wrong_size b n) (answers.WrongSize b.size) (dropping name b))
-task_of_call s c (Size name) = telling (answers.Size (elim (held_at (caller_at s.standing c) name) [ None ↦ 0 | Some b ↦ b.size ]))
-task_of_call s c (Fill name byte) = with_held (caller_at s.standing c) name (λ b. filling b byte)
+    with_held (caller_at s.standing c) name (λ h. refuse_if (is_wrong_size h.block n) (answers.WrongSize h.block.size) (dropping h))
+task_of_call s c (Size name) = telling (answers.Size (elim (held_at (caller_at s.standing c) name) [ None ↦ 0 | Some h ↦ h.block.size ]))
+task_of_call s c (Fill name byte) = with_held (caller_at s.standing c) name (λ h. filling h.block byte)
 task_of_call s c (Show name off count) =
-    with_held (caller_at s.standing c) name (λ b. refuse_if (nat_lt b.size (off + count)) answers.OutOfRange (showing b off count))
+    with_held (caller_at s.standing c) name (λ h. refuse_if (nat_lt h.block.size (off + count)) answers.OutOfRange (showing h.block off count))
 task_of_call s c (Link name off target) =
     let me = caller_at s.standing c in
-    with_held me name (λ b. with_held me target (λ d. refuse_if (nat_lt b.size (off + 8)) answers.OutOfRange (linking b off d.first)))
-task_of_call s c (Give name to given) = with_held (caller_at s.standing c) name (λ b. giving name b to (names.Given given))
+    with_held me name (λ h. with_held me target (λ t. refuse_if (nat_lt h.block.size (off + 8)) answers.OutOfRange (linking h.block off t.block.first)))
+task_of_call s c (Give name to given) = with_held (caller_at s.standing c) name (λ h. giving h to (names.Given given))
 task_of_call s c (Batch name count n) =
     let me = caller_at s.standing c in
     refuse_if (is_batch_held me name count) answers.Held (in_zone s.standing me.zone (λ z. batching name count (request_of c z n 16)))

@@ -113,12 +113,13 @@ among_own c (y ∷ es) x (suc k, l, is) mine =
 -- So nobody disturbs a request of which no event touches a page of nano.
 pub none_disturbs : BookLaws → (s t : Account) (mine : List Entry) (m : ℕ) → AreLawful t.profile opening t.seen → Grows s mine m t
     → ((e : Entry) → Contains mine e → (i : ℕ) → touches s.profile e.event (nano_page i) ≡ false) → IsUndisturbed s.profile t.seen s.caller mine
-none_disturbs L s t mine m lawful grows off e d x (nano_page i) he hd dry hx after before te tx = absurd (false≢true (sym (off e he i) ∙ te))
-none_disturbs L s t mine m lawful grows off e d x (keeper_at q) he hd dry hx after before te tx =
+none_disturbs L s t mine m lawful grows off x (nano_page i) hx tx within = absurd (false≢true (sym (off within.earlier within.has_earlier i) ∙ within.touched))
+none_disturbs L s t mine m lawful grows off x (keeper_at q) hx tx within =
+    let e = within.earlier in
     let more = grows.adds.more in
     let all : AreIndices 0 (s.seen ++ more) = subst (λ h. AreIndices 0 h) grows.adds.seen (λ k y at. L.index t.profile opening t.seen lawful k y at) in
     let tail = indices_behind 0 s.seen more all in
-    let here = own_in s.caller more e (subst (λ es. Contains es e) (sym grows.adds.own_is) he) in
+    let here = own_in s.caller more e (subst (λ es. Contains es e) (sym grows.adds.own_is) within.has_earlier) in
     let later : Contains more x = ⊎_elim (λ (f : Contains s.seen x). let a = in_front 0 s.seen more x all f in let b = not_below (0 + length s.seen) more e tail here.0 in absurd (omega arith)) (λ (f : Contains more x). f)
     (Contains-append_cases s.seen more x (subst (λ h. Contains h x) grows.adds.seen hx)) in
-    then_alone s.profile s.caller (keeper_at q) (0 + length s.seen) (holds_spot s (keeper_at q)) more e x tail (grows.undisturbed q) here.0 here.1 te later after tx
+    then_alone s.profile s.caller (keeper_at q) (0 + length s.seen) (holds_spot s (keeper_at q)) more e x tail (grows.undisturbed q) here.0 here.1 within.touched later within.behind tx

@@ -22,8 +22,8 @@ all_at {A = A} test (y ∷ ys) x all contains =
     ]
 
 pub calm : (p : Profile) (h : List Entry) (c : ℕ) (es : List Entry) → list_all (λ e. not (is_dry e.event)) es ≡ true → IsUndisturbed p h c es
-calm p h c es none e d x j at_e at_d dry at_x after before here there =
-    absurd (false≢true (sym (ap not dry) ∙ all_at (λ (y : Entry). not (is_dry y.event)) es d none at_d))
+calm p h c es none x j at_x there within =
+    absurd (false≢true (sym (ap not within.is_dry) ∙ all_at (λ (y : Entry). not (is_dry y.event)) es within.dry none within.has_dry))
 
 pub alone : (p : Profile) (h : List Entry) (c : ℕ) (es : List Entry) → ((x : Entry) → Contains h x → x.caller ≡ c) → IsUndisturbed p h c es
-alone p h c es mine e d x j at_e at_d dry at_x after before here there = mine x at_x
+alone p h c es mine x j at_x there within = mine x at_x

@@ -132,9 +132,10 @@ module _ (L : HistoryLaws) (p : Profile) (h later : List Entry) (lawful : AreLaw
       null_in_large first last flushes many whole full (still_flushes q.zone (units_of q.bytes) 1 flushes rest between) (still_dry q.zone (units_of q.bytes) 1 last low dry) is
 
   still_undisturbed : (c : ℕ) (es : List Entry) → AreBefore (length h) es → IsUndisturbed p h c es → IsUndisturbed p (h ++ later) c es
-  still_undisturbed c es all calm e d x j at_e at_d dry at_x after before here there =
-      let last = all d at_d in
-      calm e d x j at_e at_d dry (is_there x at_x (let low = before in omega (arith, low, last))) after before here there
+  still_undisturbed c es all calm x j at_x there within =
+      let low = within.before in
+      let last = all within.dry within.has_dry in
+      calm x j (is_there x at_x (omega (arith, low, last))) there within
 
   pub still_serves : (q : Request) (es : List Entry) (got : Option Block) → AreBefore (length h) es → Serves p h q es got → Serves p (h ++ later) q es got
   still_serves q es got all serves = record { served = still_served q es got all serves.served; undisturbed = still_undisturbed q.caller es all serves.undisturbed }

@@ -33,13 +33,23 @@ abbrev pub IsHemmedIn : State → Block → ℕ → Type 0
 IsHemmedIn s b n =
     (k : Place) × IsTrue (is_magazine k || is_depot k) × IsTrue (has_block (kept_at s (spot_of k)).live b) × IsTrue (not (has_room_for s k b n))
 
--- It was so after some number of first entries of the history, from low to high.
-pub record WasHemmedIn (p : Profile) (h : List Entry) (low high : ℕ) (b : Block) (n : ℕ) : Type 0 where
+-- What is asked of a block: a caller wants n bytes in its place. The block is one of this zone, and all this is done at some time from
+-- low to high: after so many first entries of the history.
+pub record Resize : Type 0 where
+  pub caller : ℕ
+  pub zone : ℕ
+  pub block : Block
+  pub bytes : ℕ
+  pub low : ℕ
+  pub high : ℕ
+
+-- at some time from low to high the block was hemmed in
+pub record WasHemmedIn (p : Profile) (h : List Entry) (r : Resize) : Type 0 where
   pub t : ℕ
-  pub not_before : low ≤ t
-  pub not_after : t ≤ high
+  pub not_before : r.low ≤ t
+  pub not_after : t ≤ r.high
   pub within : t ≤ length h
-  pub hemmed : IsHemmedIn (state_at p h t) b n
+  pub hemmed : IsHemmedIn (state_at p h t) r.block (good_size_of r.bytes)
 
 -- The block stays in its region where both sizes are of one range of quanta, and it doesn't lie in nano's pages.
 pub record IsOfOneRange (p : Profile) (b : Block) (n : ℕ) : Type 0 where
@@ -63,34 +73,32 @@ pub data IsResized (p : Profile) (b : Block) (n : ℕ) (es : List Entry) (got : 
       route_of b.size ≡ range.Large → route_of n ≡ range.Large → IsTrue (stays_large b.size (good_size_of n))
       → es ≡ [] → got ≡ Some b → IsResized p b n es got
 
--- When a block moves. A growth in its region moves only where the block was hemmed in at some time from low to high.
-pub data Moves (p : Profile) (h : List Entry) (low high : ℕ) (b : Block) (n : ℕ) : Type 0 where
-  to_nothing : n ≡ 0 → Moves p h low high b n
-  between_ranges : good_size_of n ≢ b.size → route_of b.size ≢ route_of n → Moves p h low high b n
-  out_of_nano : good_size_of n ≢ b.size → IsTrue (lies_in_nano_pages p b) → Moves p h low high b n
+-- When a block moves. A growth in its region moves only where the block was hemmed in.
+pub data Moves (p : Profile) (h : List Entry) (r : Resize) : Type 0 where
+  to_nothing : r.bytes ≡ 0 → Moves p h r
+  between_ranges : good_size_of r.bytes ≢ r.block.size → route_of r.block.size ≢ route_of r.bytes → Moves p h r
+  out_of_nano : good_size_of r.bytes ≢ r.block.size → IsTrue (lies_in_nano_pages p r.block) → Moves p h r
   large :
-      route_of b.size ≡ range.Large → route_of n ≡ range.Large → IsTrue (not (stays_large b.size (good_size_of n)))
-      → Moves p h low high b n
-  hemmed_in : IsOfOneRange p b n → b.size < good_size_of n → WasHemmedIn p h low high b (good_size_of n) → Moves p h low high b n
+      route_of r.block.size ≡ range.Large → route_of r.bytes ≡ range.Large → IsTrue (not (stays_large r.block.size (good_size_of r.bytes)))
+      → Moves p h r
+  hemmed_in : IsOfOneRange p r.block r.bytes → r.block.size < good_size_of r.bytes → WasHemmedIn p h r → Moves p h r
 
--- caller c's request for the block to which one of zone z moves
-abbrev pub moving_request : ℕ → ℕ → ℕ → Request
-moving_request c z n = record { caller = c; zone = z; bytes = n; align = 16 }
+-- the request for the block to which it moves
+abbrev pub moving_request : Resize → Request
+moving_request r = record { caller = r.caller; zone = r.zone; bytes = r.bytes; align = 16 }
 
--- The entries es of the history h move a block of zone z, so that it has n bytes: another one is served in that zone, and
--- the block is dropped. Where none is served it stays as it is.
-pub data IsMoved (p : Profile) (h : List Entry) (low high c z : ℕ) (b : Block) (n : ℕ) (es : List Entry) (got : Option Block) : Type 0 where
+-- The entries es of the history h move the block: another one is served in its zone, and the block is dropped. Where none is served it
+-- stays as it is.
+pub data IsMoved (p : Profile) (h : List Entry) (r : Resize) (es : List Entry) (got : Option Block) : Type 0 where
   moved :
-      (d : Block) (news olds : List Entry) → Moves p h low high b n → es ≡ news ++ olds
-      → Serves p h (moving_request c z n) news (Some d) → IsDropped p h b olds
-      → got ≡ Some d → IsMoved p h low high c z b n es got
-  not_moved :
-      Moves p h low high b n → Serves p h (moving_request c z n) es None
-      → got ≡ None → IsMoved p h low high c z b n es got
+      (new : Block) (news olds : List Entry) → Moves p h r → es ≡ news ++ olds
+      → Serves p h (moving_request r) news (Some new) → IsDropped p h r.block olds
+      → got ≡ Some new → IsMoved p h r es got
+  not_moved : Moves p h r → Serves p h (moving_request r) es None → got ≡ None → IsMoved p h r es got
 
 -- one or the other
-abbrev pub IsReallocated : Profile → List Entry → ℕ → ℕ → ℕ → ℕ → Block → ℕ → List Entry → Option Block → Type 0
-IsReallocated p h low high c z b n es got = IsResized p b n es got ⊎ IsMoved p h low high c z b n es got
+abbrev pub IsReallocated : Profile → List Entry → Resize → List Entry → Option Block → Type 0
+IsReallocated p h r es got = IsResized p r.block r.bytes es got ⊎ IsMoved p h r es got
 
 -- what becomes of the block by these entries: it stays as it is where there are none
 abbrev pub reallocated : Block → List Entry → Option Block

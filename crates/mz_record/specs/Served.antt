@@ -116,12 +116,20 @@ abbrev pub is_dry : Event → Bool
 is_dry (Dry z w al) = true
 is_dry _ = false
 
--- From an entry of a request up to a dry of the same request, no other caller's entry touches a place that the entry
--- touches.
+-- at this place, the ticket t is behind one of the entries that touches it, and before one that finds the pages dry
+pub record IsWithin (p : Profile) (es : List Entry) (j : Spot) (t : ℕ) : Type 0 where
+  pub earlier : Entry
+  pub dry : Entry
+  pub has_earlier : Contains es earlier
+  pub touched : IsTrue (touches p earlier.event j)
+  pub behind : earlier.ticket < t
+  pub has_dry : Contains es dry
+  pub is_dry : IsTrue (is_dry dry.event)
+  pub before : t < dry.ticket
+
+-- At each place, from the first of the entries that touches it to the last that finds the pages dry, nobody but caller c touches it.
 abbrev pub IsUndisturbed : Profile → List Entry → ℕ → List Entry → Type 0
-IsUndisturbed p h c es =
-    (e d x : Entry) (j : Spot) → Contains es e → Contains es d → IsTrue (is_dry d.event) → Contains h x → e.ticket < x.ticket → x.ticket < d.ticket
-    → IsTrue (touches p e.event j) → IsTrue (touches p x.event j) → x.caller ≡ c
+IsUndisturbed p h c es = (x : Entry) (j : Spot) → Contains h x → IsTrue (touches p x.event j) → IsWithin p es j x.ticket → x.caller ≡ c
 
 -- the entries serve the request so, and no other caller disturbs them
 pub record Serves (p : Profile) (h : List Entry) (q : Request) (es : List Entry) (got : Option Block) : Type 0 where

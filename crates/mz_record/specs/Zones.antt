@@ -1,8 +1,7 @@
 -- What a state has in each zone: live blocks, and runs. That a zone is destroyed with all its runs is after libmalloc;
 -- the numbers of zones, and the order in which runs go back, are this project's own.
 use Rattle.std.specs.Prelude.{ℕ, ◌==◌, List, [], ◌∷◌, filter, find, length, map, Option}
-use Rattle.std.specs.Option.{option_map}
-use Rattle.mz_base.specs.Space.{Block, Run, same_block}
+use Rattle.mz_base.specs.Space.{Block, Run}
 use Rattle.mz_base.specs.Lists.{insert_by}
 use Rattle.mz_events.specs.declared.event.Event.{Event}
 use Rattle.mz_events.specs.declared.event.Event.TheVariants.{Back, Shut}
@@ -12,10 +11,6 @@ use Rattle.mz_events.specs.State.{State, live_blocks, placed_runs}
 -- the zone of a spot
 abbrev pub zone_at : Spot → ℕ
 zone_at j = zone_of (place_of j)
-
--- the zone in which the pair is live, or none
-abbrev pub zone_of_block : State → Block → Option ℕ
-zone_of_block s b = option_map (λ x. zone_at x.0) (find (λ x. same_block b x.1) (live_blocks s))
 
 -- the live block that begins at the address, with its spot, or none
 abbrev pub live_from : State → ℕ → Option (Spot × Block)

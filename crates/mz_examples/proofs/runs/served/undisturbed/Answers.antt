@@ -18,7 +18,7 @@ unfolding look_up write insert_by best_fit write_all after keeps after_all by_ti
 returns-clause-lawful_at_magazine c = (c.lawful_without_breach.ensures two_callers_in_8_pages (with_other (event.Full magazine 16 16))).0 refl
 
 pub returns-clause-at_magazine : goal.returns-clause-at_magazine
-returns-clause-at_magazine c = λ free. let mine = free (entry_of 0 (event.Full magazine 112 16)) (dry_at 3) (entry_of_other 2 (event.Full magazine 16 16)) (spot_of magazine) (0, omega arith, refl) (2, omega arith, refl) refl (2, omega arith, refl) (omega arith) (omega arith) refl refl in (cc)
+returns-clause-at_magazine c = λ free. let mine = free (entry_of_other 2 (event.Full magazine 16 16)) (spot_of magazine) (2, omega arith, refl) refl (record { earlier = entry_of 0 (event.Full magazine 112 16); dry = dry_at 3; has_earlier = (0, omega arith, refl); touched = refl; behind = omega arith; has_dry = (2, omega arith, refl); is_dry = refl; before = omega arith }) in (cc)
 
 pub returns-clause-lawful_elsewhere : goal.returns-clause-lawful_elsewhere
 unfolding look_up write insert_by best_fit write_all after keeps after_all by_ticket first_breach

@@ -22,4 +22,4 @@ unfolding look_up write insert_by best_fit write_all after keeps after_all by_ti
 returns-clause-lawful c = (c.lawful_without_breach.ensures two_callers_in_8_pages other_at_pages).0 refl
 
 pub returns-clause-between : goal.returns-clause-between
-returns-clause-between c = λ free. let mine = free (entry_of 5 (event.Dry 0 9 1)) (entry_of 8 (event.Dry 0 9 1)) (entry_of_other 7 (event.Dry 0 64 64)) (spot_of Pages) (1, omega arith, refl) (3, omega arith, refl) refl (7, omega arith, refl) (omega arith) (omega arith) refl refl in (cc)
+returns-clause-between c = λ free. let mine = free (entry_of_other 7 (event.Dry 0 64 64)) (spot_of Pages) (7, omega arith, refl) refl (record { earlier = entry_of 5 (event.Dry 0 9 1); dry = entry_of 8 (event.Dry 0 9 1); has_earlier = (1, omega arith, refl); touched = refl; behind = omega arith; has_dry = (3, omega arith, refl); is_dry = refl; before = omega arith }) in (cc)

@@ -13,7 +13,7 @@ use Rattle.mz_events.specs.declared.event.Event.{Event}
 use Rattle.mz_events.specs.declared.event.Event.TheVariants.{Size}
 use Rattle.mz_events.specs.Hands.{hand_after, hand_through}
 use Rattle.mz_record.specs.Served.{events}
-use Rattle.mz_record.specs.Resized.{IsResized, same_size, in_place, still_large, IsMoved, moved, not_moved}
+use Rattle.mz_record.specs.Resized.{Resize, IsResized, same_size, in_place, still_large, IsMoved, moved, not_moved}
 use Rattle.mz_book.specs.Account.{hand}
 use Rattle.mz_zone.specs.declared.fault.ReallocFault.{ReallocFault}
 use Rattle.mz_zone.specs.Blocks.{BlockView, block_of}
@@ -91,17 +91,17 @@ has_others (x ∷ bs) b c other h = by_test (same_block c x) (same_block b x) re
     by_test false false y e rest = rw e (or_right (same_block c x) _ (rest (rw y at h)))
 
 moved_there :
-    (laws : ZoneLaws) (p : Profile) (hs es : List Entry) (t c z n : ℕ) (b d : Block) (bs : List Block) → (b.first ≡ d.first → ⊥)
-    → IsMoved p hs t t c z b n es (Some d) → has_block (hand_through bs es) d ≡ true
-moved_there laws p hs es t c z n b d bs other (moved x news olds moves split serves drops got) =
+    (laws : ZoneLaws) (p : Profile) (hs es : List Entry) (r : Resize) (d : Block) (bs : List Block) → (r.block.first ≡ d.first → ⊥)
+    → IsMoved p hs r es (Some d) → has_block (hand_through bs es) d ≡ true
+moved_there laws p hs es r d bs other (moved x news olds moves split serves drops got) =
     let is : d ≡ x = same_Some d x got in
     let made : hand_through bs news ≡ bs ++ x ∷ [] = laws.hand_served _ _ _ news (Some x) bs serves.served in
-    let left : hand_through bs es ≡ drop_block b (bs ++ x ∷ []) =
+    let left : hand_through bs es ≡ drop_block r.block (bs ++ x ∷ []) =
     ap (hand_through bs) split
-    ∙ (fold-append (λ s e. hand_after s e.event) bs news olds ∙ (laws.hand_dropped p hs b olds (hand_through bs news) drops ∙ ap (drop_block b) made)) in
+    ∙ (fold-append (λ s e. hand_after s e.event) bs news olds ∙ (laws.hand_dropped p hs r.block olds (hand_through bs news) drops ∙ ap (drop_block r.block) made)) in
     ap (λ s. has_block s d) left
-    ∙ has_others (bs ++ x ∷ []) b d other (subst (λ y. has_block (bs ++ y ∷ []) d ≡ true) is (last_there bs d))
-moved_there laws p hs es t c z n b d bs other (not_moved moves serves none) = absurd (some_none none)
+    ∙ has_others (bs ++ x ∷ []) r.block d other (subst (λ y. has_block (bs ++ y ∷ []) d ≡ true) is (last_there bs d))
+moved_there laws p hs es r d bs other (not_moved moves serves none) = absurd (some_none none)
   where
     some_none : ◌≡◌ {A = Option Block} (Some d) None → ⊥
     some_none e = cc
@@ -109,7 +109,7 @@ moved_there laws p hs es t c z n b d bs other (not_moved moves serves none) = ab
 pub moves_handed : (laws : ZoneLaws) (v w : AtView) (z n : ℕ) (b d : BlockView) → MovesOn v z b n (Ok d) w → IsHandedIn w d
 moves_handed laws v w z n b d m = record {
   in_hand = ap (λ hs. has_block hs (block_of d)) (hand_after_call laws v w m.mine m.goes)
-      ∙ moved_there laws v.book.profile w.book.seen m.mine m.t v.book.caller z n (block_of b) (block_of d) (hand v.book) m.elsewhere m.moved;
+      ∙ moved_there laws v.book.profile w.book.seen m.mine (resize_at v.book m.t z (block_of b) n) (block_of d) (hand v.book) m.elsewhere m.moved;
   space = m.answer.1 ∙ sym m.goes.adds.same.site;
   slot = m.slot;
 }

@@ -18,6 +18,7 @@ use Rattle.mz_book.specs.Account.{Account, HoldsNothing, hand, state_of}
 use Rattle.mz_events.specs.State.{is_open}
 use Rattle.mz_book.specs.Pairs.{hand_among}
 use Rattle.mz_rack.specs.declared.lot.Null.{Null}
+use Rattle.mz_rack.specs.Resizing.{resize_at}
 use Rattle.mz_rack.specs.Lots.{LotView}
 use Rattle.mz_rack.specs.Resizing.{Resizes as Racked}
 use Rattle.mz_rack.specs.Serving.{CanServe}
@@ -176,8 +177,9 @@ module _ (laws : ZoneLaws) (v u : AtView) (z n : ℕ) (b d : BlockView) (stuck :
         t = a.t;
         before = record { all_seen = omega (arith, seen, long, from); none_noted = a.before.none_noted };
         moved =
-            subst (λ c. IsMoved v.book.profile w.book.seen a.t a.t c z (block_of b) n a.mine (block_got got)) stuck.goes.adds.same.caller
-            (subst (λ (p : Profile). IsMoved p w.book.seen a.t a.t u.book.caller z (block_of b) n a.mine (block_got got)) stuck.goes.adds.same.profile a.moved);
+            subst (λ c. IsMoved v.book.profile w.book.seen (record { caller = c; zone = z; block = block_of b; bytes = n; low = a.t; high = a.t }) a.mine (block_got got))
+            stuck.goes.adds.same.caller
+            (subst (λ (p : Profile). IsMoved p w.book.seen (resize_at u.book a.t z (block_of b) n) a.mine (block_got got)) stuck.goes.adds.same.profile a.moved);
         answer = subst (λ x. IsAnswer z x a.mine got) stuck.goes.adds.same.site a.answer;
         slot = a.slot;
         elsewhere = a.elsewhere;

@@ -15,13 +15,14 @@ use Rattle.mz_events.specs.Hands.{hand_through}
 use Rattle.mz_events.specs.State.{opening}
 use Rattle.mz_events.specs.History.{AreLawful}
 use Rattle.mz_record.specs.Bytes.{kept, kept_in_move, is_shown_as}
-use Rattle.mz_record.specs.Served.{Serves, block_made, blocks_made}
+use Rattle.mz_record.specs.Served.{Request, Serves, block_made, blocks_made}
 use Rattle.mz_record.specs.Dropped.{IsDropped}
-use Rattle.mz_record.specs.Resized.{moving_request, moved, Moves, to_nothing, between_ranges, out_of_nano, large, hemmed_in, IsHemmedIn, not_moved}
+use Rattle.mz_record.specs.Resized.{Resize, moving_request, moved, Moves, to_nothing, between_ranges, out_of_nano, large, hemmed_in, IsHemmedIn, not_moved}
 use Rattle.std.proofs.lemmas.Bool.{and_parts, eqb-true}
 use Rattle.mz_book.specs.Account.{Account, IsOrderly, hand}
 use Rattle.mz_book.specs.Pairs.{hand_among}
 use Rattle.mz_rack.specs.declared.lot.Null.{Null}
+use Rattle.mz_rack.specs.Resizing.{resize_now}
 use Rattle.mz_nano.specs.declared.view.Held.{Held}
 use Rattle.mz_nano.specs.Lists.{In, is_at, without}
 use Rattle.mz_nano.specs.Rule.{Once, held}
@@ -42,32 +43,31 @@ use Rattle.mz_zone.proofs.Clearing.{whole_front}
 use Rattle.mz_zone.proofs.Copied.{shown_kept, written_length}
 use Rattle.mz_zone.proofs.Noted.{none_before, served_on}
 
--- what made a block move after t entries is so in a longer history too
+-- what made a block move is so in a longer history too, and its zone has no part in it
 pub moves_later :
-    (laws : ZoneLaws) (p : Profile) (h later : List Entry) (t : ℕ) (b : Block) (n : ℕ) → AreLawful p opening (h ++ later) → t ≤ length h
-    → Moves p h t t b n → Moves p (h ++ later) t t b n
-moves_later laws p h later t b n lawful within (to_nothing e) = to_nothing e
-moves_later laws p h later t b n lawful within (between_ranges e f) = between_ranges e f
-moves_later laws p h later t b n lawful within (out_of_nano e f) = out_of_nano e f
-moves_later laws p h later t b n lawful within (large e f k) = large e f k
-moves_later laws p h later t b n lawful within (hemmed_in e f w) = hemmed_in e f (record {
+    (laws : ZoneLaws) (p : Profile) (h later : List Entry) (r : Resize) (z : ℕ) → AreLawful p opening (h ++ later)
+    → Moves p h r → Moves p (h ++ later) (record r { zone = z })
+moves_later laws p h later r z lawful (to_nothing e) = to_nothing e
+moves_later laws p h later r z lawful (between_ranges e f) = between_ranges e f
+moves_later laws p h later r z lawful (out_of_nano e f) = out_of_nano e f
+moves_later laws p h later r z lawful (large e f k) = large e f k
+moves_later laws p h later r z lawful (hemmed_in e f w) = hemmed_in e f (record {
   t = w.t;
   not_before = w.not_before;
   not_after = w.not_after;
   within = let i : w.t ≤ length h = w.within in omega (arith, length-append h later);
-  hemmed = subst (λ s. IsHemmedIn s b (good_size_of n)) (sym (laws.state_later p h later w.t lawful w.within)) w.hemmed;
+  hemmed = subst (λ s. IsHemmedIn s r.block (good_size_of r.bytes)) (sym (laws.state_later p h later w.t lawful w.within)) w.hemmed;
 })
 
 -- what made a block move before a call does so after it
 later_moves :
-    (laws : ZoneLaws) (v w : AtView) (mine : List Entry) (b : Block) (n : ℕ) → IsOrderly w.book → Goes v mine w
-    → Moves v.book.profile v.book.seen (length v.book.seen) (length v.book.seen) b n
-    → Moves v.book.profile w.book.seen (length v.book.seen) (length v.book.seen) b n
-later_moves laws v w mine b n orderly goes moves =
+    (laws : ZoneLaws) (v w : AtView) (mine : List Entry) (z : ℕ) (b : BlockView) (n : ℕ) → IsOrderly w.book → Goes v mine w → MovesNow v b n
+    → Moves v.book.profile w.book.seen (resize_now v.book z (block_of b) n)
+later_moves laws v w mine z b n orderly goes moves =
     let lawful : AreLawful v.book.profile opening (v.book.seen ++ goes.adds.more) =
     subst (λ h. AreLawful v.book.profile opening h) goes.adds.seen (subst (λ p. AreLawful p opening w.book.seen) goes.adds.same.profile orderly.lawful) in
-    subst (λ h. Moves v.book.profile h (length v.book.seen) (length v.book.seen) b n) (sym goes.adds.seen)
-    (moves_later laws v.book.profile v.book.seen goes.adds.more (length v.book.seen) b n lawful (omega arith) moves)
+    subst (λ h. Moves v.book.profile h (resize_now v.book z (block_of b) n)) (sym goes.adds.seen)
+    (moves_later laws v.book.profile v.book.seen goes.adds.more (resize_now v.book b.zone (block_of b) n) z lawful moves)
 
 -- no block was served, and the old one stays
 pub stays_so :
@@ -79,7 +79,7 @@ stays_so laws v w z n b e orderly a moves = record {
   goes = a.goes;
   t = length v.book.seen;
   before = none_before v w a.mine a.goes laws orderly;
-  moved = not_moved (later_moves laws v w a.mine (block_of b) n orderly a.goes moves) a.serves refl;
+  moved = not_moved (later_moves laws v w a.mine z b n orderly a.goes moves) a.serves refl;
   answer = a.answer;
   slot = a.slot;
   elsewhere = tt;
@@ -203,9 +203,12 @@ module _ (laws : ZoneLaws) (v u w : AtView) (z n : ℕ) (b c : BlockView) (hande
   both : Goes v (made.mine ++ freed.mine) w
   both = goes_on laws v u w made.mine freed.mine made.goes freed.goes
 
-  still_serves : Serves v.book.profile w.book.seen (moving_request v.book.caller z n) made.mine (Some (block_of c))
+  request : Request
+  request = moving_request (resize_now v.book z (block_of b) n)
+
+  still_serves : Serves v.book.profile w.book.seen request made.mine (Some (block_of c))
   still_serves =
-      served_on laws v u w made.mine freed.mine (moving_request v.book.caller z n) (Some (block_of c)) made.goes freed.goes orderly made.serves
+      served_on laws v u w made.mine freed.mine request (Some (block_of c)) made.goes freed.goes orderly made.serves
 
   drops : IsDropped v.book.profile w.book.seen (block_of b) freed.mine
   drops = subst (λ (p : Profile). IsDropped p w.book.seen (block_of b) freed.mine) made.goes.adds.same.profile freed.freed.1
@@ -218,8 +221,8 @@ module _ (laws : ZoneLaws) (v u w : AtView) (z n : ℕ) (b c : BlockView) (hande
     goes = both;
     t = length v.book.seen;
     before = none_before v w (made.mine ++ freed.mine) both laws orderly;
-    moved = moved (block_at c.span.first (length ws)) made.mine freed.mine (later_moves laws v w _ (block_of b) n orderly both moves) refl
-        (subst (λ k. Serves v.book.profile w.book.seen (moving_request v.book.caller z n) made.mine (Some (block_at c.span.first k))) (sym same) still_serves) drops refl;
+    moved = moved (block_at c.span.first (length ws)) made.mine freed.mine (later_moves laws v w _ z b n orderly both moves) refl
+        (subst (λ k. Serves v.book.profile w.book.seen request made.mine (Some (block_at c.span.first k))) (sym same) still_serves) drops refl;
     answer = (
       made.answer.0,
       made.answer.1,

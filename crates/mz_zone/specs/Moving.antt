@@ -5,6 +5,7 @@ use Rattle.mz_events.specs.declared.entry.Entry.{Entry}
 use Rattle.mz_record.specs.Resized.{IsResized, IsMoved}
 use Rattle.mz_record.specs.Bytes.{Bytes, kept_in_place, kept_in_move, is_shown_as}
 use Rattle.mz_rack.specs.declared.lot.Null.{Null}
+use Rattle.mz_rack.specs.Resizing.{resize_at}
 use Rattle.mz_nano.specs.declared.view.Held.{Held}
 use Rattle.mz_zone.specs.declared.fault.ReallocFault.{ReallocFault}
 use Rattle.mz_zone.specs.declared.fault.ReallocFault.TheVariants as fault
@@ -55,7 +56,7 @@ pub record MovesOn (v : AtView) (z : ℕ) (b : BlockView) (n : ℕ) (got : Resul
   pub goes : Goes v mine w
   pub t : ℕ
   pub before : IsBefore v mine t
-  pub moved : IsMoved v.book.profile w.book.seen t t v.book.caller z (block_of b) n mine (block_got got)
+  pub moved : IsMoved v.book.profile w.book.seen (resize_at v.book t z (block_of b) n) mine (block_got got)
   pub answer : IsAnswer z v.book.site mine got
   pub slot : HasGotSlot w got
   pub elsewhere : IsElsewhere b got

@@ -2,6 +2,7 @@
 use Rattle.std.specs.Prelude.{◌≡◌, ℕ, Bool, true, false, [], ◌++◌, length, min, take, drop, Some, Result, Ok, Err}
 use Rattle.mz_record.specs.Resized.{Moves}
 use Rattle.mz_book.specs.Account.{Account}
+use Rattle.mz_rack.specs.Resizing.{resize_now}
 use Rattle.mz_zone.specs.declared.fault.ReallocFault.{ReallocFault}
 use Rattle.mz_zone.specs.declared.fault.ReallocFault.TheVariants as fault
 use Rattle.mz_zone.specs.Blocks.{BlockView, block_of, with_block_bytes}
@@ -11,7 +12,7 @@ use Rattle.mz_zone.specs.Moving.{Stays, MovesOn}
 
 -- the block has to move, as the book's last state says
 abbrev pub MovesAfter : Account → BlockView → ℕ → Type 0
-MovesAfter t b n = Moves t.profile t.seen (length t.seen) (length t.seen) (block_of b) n
+MovesAfter t b n = Moves t.profile t.seen (resize_now t b.zone (block_of b) n)
 
 abbrev pub MovesNow : AtView → BlockView → ℕ → Type 0
 MovesNow v b n = MovesAfter v.book b n

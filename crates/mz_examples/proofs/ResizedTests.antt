@@ -19,7 +19,8 @@ use Rattle.mz_base.specs.Room.{lies_in}
 use Rattle.mz_record.specs.Moments.{state_at}
 use Rattle.mz_record.specs.Served.{events, IsServed}
 use Rattle.mz_record.specs.Dropped.{IsDropped}
-use Rattle.mz_record.specs.Resized.{IsHemmedIn, WasHemmedIn, IsOfOneRange, stays_large, lies_in_nano_pages, moving_request, Moves, to_nothing, between_ranges, out_of_nano, large, hemmed_in, same_size, in_place, still_large, moved, not_moved, IsReallocated}
+use Rattle.mz_record.specs.Resized.{Resize, IsHemmedIn, WasHemmedIn, IsOfOneRange, stays_large, lies_in_nano_pages, moving_request, Moves, to_nothing, between_ranges, out_of_nano, large, hemmed_in, same_size, in_place, still_large, moved, not_moved, IsReallocated}
+use Rattle.mz_examples.specs.RunsResized.{asks}
 use Rattle.mz_examples.proofs.UndisturbedTest.{flipped}
 
 -- an event ends a block
@@ -70,9 +71,15 @@ some_none x P h = cc
 none_some : {A : Type 0} (x : A) (P : Type 0) → ◌≡◌ {A = Option A} None (Some x) → P
 none_some x P h = cc
 
-module _ (p : Profile) (h : List Entry) (low high c z : ℕ) (b : Block) (n : ℕ) (es : List Entry) where
+module _ (p : Profile) (h : List Entry) (r : Resize) (es : List Entry) where
+  abbrev b : Block
+  b = r.block
+
+  abbrev n : ℕ
+  n = r.bytes
+
   -- where a block ends, it is a move
-  pub ends_then_moves : (got : Option Block) → IsReallocated p h low high c z b n es got → has_end (events es) ≡ true → Moves p h low high b n
+  pub ends_then_moves : (got : Option Block) → IsReallocated p h r es got → has_end (events es) ≡ true → Moves p h r
   ends_then_moves got (inl (same_size asked size none is)) ends = absurd (false≢true (sym (ap (λ (xs : List Entry). has_end (events xs)) none) ∙ ends))
   ends_then_moves got (inl (in_place k one other all is)) ends = absurd (false≢true (sym (ap has_end all) ∙ ends))
   ends_then_moves got (inl (still_large old new stays none is)) ends = absurd (false≢true (sym (ap (λ (xs : List Entry). has_end (events xs)) none) ∙ ends))
@@ -80,7 +87,7 @@ module _ (p : Profile) (h : List Entry) (low high c z : ℕ) (b : Block) (n : �
   ends_then_moves got (inr (not_moved moves served is)) ends = moves
 
   -- where none ends, the block stays
-  pub no_end_then_stays : (d : Block) → IsReallocated p h low high c z b n es (Some d) → has_end (events es) ≡ false → stays_well p b n (events es) d ≡ true
+  pub no_end_then_stays : (d : Block) → IsReallocated p h r es (Some d) → has_end (events es) ≡ false → stays_well p b n (events es) d ≡ true
   no_end_then_stays d (inl (same_size asked size none is)) no_end =
       ap (λ (xs : List Entry). stays_well p b n (events xs) d) none
       ∙ and_from (same_block b d) _ (same-block b d (some_of d b is))
@@ -99,7 +106,7 @@ module _ (p : Profile) (h : List Entry) (low high c z : ℕ) (b : Block) (n : �
   no_end_then_stays d (inr (not_moved moves served is)) no_end = some_none d _ is
 
   -- a request that gets none stands behind a block that gets none
-  pub none_then_served : IsReallocated p h low high c z b n es None → IsServed p h (moving_request c z n) es None
+  pub none_then_served : IsReallocated p h r es None → IsServed p h (moving_request r) es None
   none_then_served (inl (same_size asked size none is)) = none_some b _ is
   none_then_served (inl (in_place k one other all is)) = none_some (block_at b.first (good_size_of n)) _ is
   none_then_served (inl (still_large old new stays none is)) = none_some b _ is
@@ -107,20 +114,22 @@ module _ (p : Profile) (h : List Entry) (low high c z : ℕ) (b : Block) (n : �
   none_then_served (inr (not_moved moves served is)) = served.served
 
 -- within a range a block moves only where it was hemmed in
-pub hemmed_at : (p : Profile) (h : List Entry) (low high : ℕ) (b : Block) (n : ℕ) → IsOfOneRange p b n → Moves p h low high b n → (b.size < good_size_of n) × WasHemmedIn p h low high b (good_size_of n)
-hemmed_at p h low high b n one (to_nothing none) = absurd (let asked = one.asked in omega (arith, asked, none))
-hemmed_at p h low high b n one (between_ranges other apart) = absurd (apart one.ranges)
-hemmed_at p h low high b n one (out_of_nano other inside) = absurd (flipped (lies_in_nano_pages p b) inside one.in_region)
-hemmed_at p h low high b n one (large old new wastes) = absurd (one.not_large new)
-hemmed_at p h low high b n one (hemmed_in same more hemmed) = (more, hemmed)
+pub hemmed_at : (p : Profile) (h : List Entry) (r : Resize) → IsOfOneRange p r.block r.bytes → Moves p h r → (r.block.size < good_size_of r.bytes) × WasHemmedIn p h r
+hemmed_at p h r one (to_nothing none) = absurd (let asked = one.asked in omega (arith, asked, none))
+hemmed_at p h r one (between_ranges other apart) = absurd (apart one.ranges)
+hemmed_at p h r one (out_of_nano other inside) = absurd (flipped (lies_in_nano_pages p r.block) inside one.in_region)
+hemmed_at p h r one (large old new wastes) = absurd (one.not_large new)
+hemmed_at p h r one (hemmed_in same more hemmed) = (more, hemmed)
 
 -- a large block moves only where it wastes too much
-pub wastes_then : (p : Profile) (h : List Entry) (low high : ℕ) (b : Block) (n : ℕ) → route_of b.size ≡ range.Large → route_of n ≡ range.Large → 0 < n → lies_in_nano_pages p b ≡ false → Moves p h low high b n → stays_large b.size (good_size_of n) ≡ false
-wastes_then p h low high b n old new asked below (to_nothing none) = absurd (omega (arith, asked, none))
-wastes_then p h low high b n old new asked below (between_ranges other apart) = absurd (apart (old ∙ sym new))
-wastes_then p h low high b n old new asked below (out_of_nano other inside) = absurd (false≢true (sym below ∙ inside))
-wastes_then p h low high b n old new asked below (large one two wastes) = not-true (stays_large b.size (good_size_of n)) wastes
-wastes_then p h low high b n old new asked below (hemmed_in one more hemmed) = absurd (one.not_large new)
+pub wastes_then :
+    (p : Profile) (h : List Entry) (r : Resize) → route_of r.block.size ≡ range.Large → route_of r.bytes ≡ range.Large → 0 < r.bytes → lies_in_nano_pages p r.block ≡ false
+    → Moves p h r → stays_large r.block.size (good_size_of r.bytes) ≡ false
+wastes_then p h r old new asked below (to_nothing none) = absurd (omega (arith, asked, none))
+wastes_then p h r old new asked below (between_ranges other apart) = absurd (apart (old ∙ sym new))
+wastes_then p h r old new asked below (out_of_nano other inside) = absurd (false≢true (sym below ∙ inside))
+wastes_then p h r old new asked below (large one two wastes) = not-true (stays_large r.block.size (good_size_of r.bytes)) wastes
+wastes_then p h r old new asked below (hemmed_in one more hemmed) = absurd (one.not_large new)
 
 -- a place has room for the block to grow to n bytes
 abbrev pub has_room_in : Kept → Block → ℕ → Bool
@@ -150,9 +159,9 @@ not_hemmed s b n room (k, kind, live, hemmed) = room_at s.values b n (spot_of k)
 -- A block that had room after the first t entries doesn't move within its region where only those count.
 pub stays_with_room :
     (p : Profile) (h : List Entry) (t : ℕ) (b : Block) (n : ℕ) → IsOfOneRange p b n → has_room_everywhere (state_at p h t).values b (good_size_of n) ≡ true
-    → Moves p h t t b n → ⊥
+    → Moves p h (asks t t 0 b n) → ⊥
 stays_with_room p h t b n one room moves =
-    let was = (hemmed_at p h t t b n one moves).1 in
+    let was = (hemmed_at p h (asks t t 0 b n) one moves).1 in
     let low = was.not_before in
     let high = was.not_after in
     let here : was.t ≡ t = omega (arith, low, high) in

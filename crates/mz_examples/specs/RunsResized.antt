@@ -6,7 +6,7 @@ use Rattle.mz_events.specs.declared.place.Place.TheVariants.{Nano}
 use Rattle.mz_events.specs.declared.entry.Entry.{Entry}
 use Rattle.mz_base.specs.declared.profile.Profile.{Profile}
 use Rattle.mz_base.specs.Space.{Block, run_at, block_at}
-use Rattle.mz_record.specs.Resized.{IsReallocated}
+use Rattle.mz_record.specs.Resized.{Resize, IsReallocated}
 use Rattle.mz_events.specs.Places.{spot_of}
 use Rattle.mz_events.specs.State.{State, opening, blank, nothing_kept}
 use Rattle.mz_examples.specs.Examples.{profile_of, entry_of, first_region, magazine, depot, large}
@@ -33,9 +33,13 @@ record_of_a = record_of (Malloc (codes "a") 48) makes_a (answers.Block 0 48)
 abbrev pub resize_a : ℕ → Command
 resize_a n = Realloc (Renamed (Base (codes "a")) (codes "a")) n
 
+-- caller 0 asks n bytes for a block of a zone, after so many entries, at least and at most
+abbrev pub asks : ℕ → ℕ → ℕ → Block → ℕ → Resize
+asks low high z b n = record { caller = 0; zone = z; block = b; bytes = n; low = low; high = high }
+
 -- these entries fit that a, which the first 4 entries made, is to have n bytes
 abbrev pub ResizesA : List Entry → ℕ → List Entry → Option Block → Type 0
-ResizesA h n es got = IsReallocated (profile_of 64) h 4 4 0 0 (block_at 0 48) n es got
+ResizesA h n es got = IsReallocated (profile_of 64) h (asks 4 4 0 (block_at 0 48) n) es got
 
 -- Row `realloc`: a grows in place, b is placed behind it, and a moves.
 abbrev pub grows : List Entry

@@ -18,12 +18,12 @@ use Rattle.mz_lines.specs.declared.command.Command.{Command}
 use Rattle.mz_lines.specs.declared.command.Command.TheVariants.{ZoneFree}
 use Rattle.mz_record.specs.Served.{Request, first_made, ServeInTurn}
 use Rattle.mz_record.specs.Dropped.{DropInTurn}
-use Rattle.mz_record.specs.Resized.{IsHemmedIn, Moves, to_nothing, between_ranges, out_of_nano, large, hemmed_in, IsMoved, moved, not_moved}
-use Rattle.mz_record.specs.Zones.{zone_of_block, destroying}
+use Rattle.mz_record.specs.Resized.{Resize, IsHemmedIn, Moves, to_nothing, between_ranges, out_of_nano, large, hemmed_in, IsMoved, moved, not_moved}
+use Rattle.mz_record.specs.Zones.{destroying}
 use Rattle.mz_lawful.specs.Standing.{Standing, caller_at}
 use Rattle.mz_lawful.specs.Settings.{Setting, above, least_ticket, now, high}
 use Rattle.mz_lawful.specs.Tasks.{Task, refused, serving, resizing, dropping, denying, telling, filling, showing, linking, giving, batching, unbatching, using, opening_zone, destroying_zone, task_of_call}
-use Rattle.mz_lawful.specs.Fitting.{IsAnswer, AreEntries, are_bytes_shown, FitsRecord}
+use Rattle.mz_lawful.specs.Fitting.{resize_of, IsAnswer, AreEntries, are_bytes_shown, FitsRecord}
 use Rattle.mz_lawful.specs.After.{after_record, after_task}
 use Rattle.mz_session.specs.Serving.{record_of}
 use Rattle.mz_run.specs.Built.{is_built_command}
@@ -104,12 +104,12 @@ module _ (L : RunLaws) (p : Profile) (h post : List Entry) (lawful : AreLawful p
 
   -- a block that moved, from low to high
 
-  still_moves : (low high up : ℕ) (b : Block) (n : ℕ) → ((t : ℕ) → t ≤ length h → t ≤ high → t ≤ up) → Moves p h low high b n → Moves p (h ++ post) low up b n
-  still_moves low high up b n under (to_nothing none) = to_nothing none
-  still_moves low high up b n under (between_ranges other ranges) = between_ranges other ranges
-  still_moves low high up b n under (out_of_nano other place) = out_of_nano other place
-  still_moves low high up b n under (large was is waste) = large was is waste
-  still_moves low high up b n under (hemmed_in range grows was) =
+  still_moves : (r : Resize) (up : ℕ) → ((t : ℕ) → t ≤ length h → t ≤ r.high → t ≤ up) → Moves p h r → Moves p (h ++ post) (record r { high = up })
+  still_moves r up under (to_nothing none) = to_nothing none
+  still_moves r up under (between_ranges other ranges) = between_ranges other ranges
+  still_moves r up under (out_of_nano other place) = out_of_nano other place
+  still_moves r up under (large was is waste) = large was is waste
+  still_moves r up under (hemmed_in range grows was) =
       let within = was.within in
       hemmed_in range grows
       (record {
@@ -117,17 +117,17 @@ module _ (L : RunLaws) (p : Profile) (h post : List Entry) (lawful : AreLawful p
         not_before = was.not_before;
         not_after = under was.t was.within was.not_after;
         within = omega (arith, within, length-append h post);
-        hemmed = subst (λ s. IsHemmedIn s b (good_size_of n)) (sym (L.state p h post was.t lawful was.within)) was.hemmed;
+        hemmed = subst (λ s. IsHemmedIn s r.block (good_size_of r.bytes)) (sym (L.state p h post was.t lawful was.within)) was.hemmed;
       })
 
-  still_moved : (low high up c z : ℕ) (b : Block) (n : ℕ) (es : List Entry) (got : Option Block) → ((t : ℕ) → t ≤ length h → t ≤ high → t ≤ up) → AreAmong h es
-      → IsMoved p h low high c z b n es got → IsMoved p (h ++ post) low up c z b n es got
-  still_moved low high up c z b n es got under there (moved d news olds moves whole serves drops is) =
-      moved d news olds (still_moves low high up b n under moves) whole
-      (L.served p h post _ news (Some d) lawful (front_among h es news olds whole there) serves)
-      (L.dropped p h post b olds lawful (back_among h es news olds whole there) drops) is
-  still_moved low high up c z b n es got under there (not_moved moves serves is) =
-      not_moved (still_moves low high up b n under moves) (L.served p h post _ es _ lawful there serves) is
+  still_moved : (r : Resize) (up : ℕ) (es : List Entry) (got : Option Block) → ((t : ℕ) → t ≤ length h → t ≤ r.high → t ≤ up) → AreAmong h es
+      → IsMoved p h r es got → IsMoved p (h ++ post) (record r { high = up }) es got
+  still_moved r up es got under there (moved new news olds moves whole serves drops is) =
+      moved new news olds (still_moves r up under moves) whole
+      (L.served p h post _ news (Some new) lawful (front_among h es news olds whole there) serves)
+      (L.dropped p h post r.block olds lawful (back_among h es news olds whole there) drops) is
+  still_moved r up es got under there (not_moved moves serves is) =
+      not_moved (still_moves r up under moves) (L.served p h post _ es _ lawful there serves) is
 
 -- Entries that were those of a task are so where the history goes on.
 module _ (L : RunLaws) (p : Profile) (pre es post : List Entry) (v : Standing) (lawful : AreLawful p opening ((pre ++ es) ++ post)) where
@@ -165,21 +165,17 @@ module _ (L : RunLaws) (p : Profile) (pre es post : List Entry) (v : Standing) (
   still_entries : (t : Task) → AreEntries (setting_at p (pre ++ es) pre v) 0 t es → AreEntries (setting_at p ((pre ++ es) ++ post) pre v) 0 t es
   still_entries (refused a) are = are
   still_entries (serving name q clear) are = L.served p (pre ++ es) post q es (first_made es) lawful there are
-  still_entries (resizing old new b n) are = record {
-    z = are.z;
-    zone = ap (λ s. zone_of_block s b) same_now ∙ are.zone;
-    entries = elim are.entries [
-      | inl stays ↦ inl stays
-      | inr moves ↦ inr (still_moved L p (pre ++ es) post lawful (above pre) (high (setting_at p (pre ++ es) pre v) 0) (high (setting_at p ((pre ++ es) ++ post) pre v) 0) 0 are.z b n es _ still_under there moves)
-    ];
-  }
-  still_entries (dropping name b) are = L.dropped p (pre ++ es) post b es lawful there are
+  still_entries (resizing name h n) are = elim are [
+    | inl stays ↦ inl stays
+    | inr moves ↦ inr (still_moved L p (pre ++ es) post lawful (resize_of (setting_at p (pre ++ es) pre v) 0 h n) (high (setting_at p ((pre ++ es) ++ post) pre v) 0) es _ still_under there moves)
+  ]
+  still_entries (dropping h) are = L.dropped p (pre ++ es) post h.block es lawful there are
   still_entries (denying z b) are = are
   still_entries (telling a) are = are
   still_entries (filling b byte) are = are
   still_entries (showing b off count) are = are
   still_entries (linking b off a) are = are
-  still_entries (giving name b to given) are = are
+  still_entries (giving h to given) are = are
   still_entries (batching base count q) are = still_served_in_turn L p (pre ++ es) post lawful q count es there are
   still_entries (unbatching hs) are = still_dropped_in_turn L p (pre ++ es) post lawful (map (λ h. h.block) hs) es there are
   still_entries (using zone) are = are

@@ -11,10 +11,10 @@ use Rattle.mz_lines.specs.declared.command.Command.{Command}
 use Rattle.mz_lines.specs.declared.command.Command.TheVariants.{Size, Show, Link}
 use Rattle.mz_record.specs.Bytes.{low_bytes, linked, is_shown_as}
 use Rattle.mz_lawful.specs.Records.{call}
-use Rattle.mz_lawful.specs.Standing.{Standing, caller_at, bytes_of}
+use Rattle.mz_lawful.specs.Standing.{Holding, Standing, caller_at, bytes_of}
 use Rattle.mz_lawful.specs.Tasks.{refused, telling, showing, linking, with_held, refuse_if, task_of}
 use Rattle.mz_zone.specs.Blocks.{BlockView, block_of, with_block_bytes}
-use Rattle.mz_session.specs.Names.{NamedBlocks, block_with}
+use Rattle.mz_session.specs.Names.{NamedBlocks, block_with, holding_of}
 use Rattle.mz_session.specs.Changes.{AreWith, written}
 use Rattle.mz_session.specs.Sessions.{SessionView, IsKept, StandsFor}
 use Rattle.mz_session.specs.Serving.{Serves, setting_of, record_of}
@@ -34,12 +34,12 @@ serves-told s command answer kept task =
 pub serves-no-size : (s : SessionView) → IsKept s → (name : Name) → block_with s.blocks name ≡ None → Serves s (Size name) (answers.Size 0) s
 serves-no-size s kept name none =
     serves-told s (Size name) (answers.Size 0) kept
-    (λ v stands. ap (λ o. telling (answers.Size (elim o [ None ↦ 0 | Some b ↦ b.size ]))) (stands.held name ∙ ap (option_map block_of) none))
+    (λ v stands. ap (λ (o : Option Holding). telling (answers.Size (elim o [ None ↦ 0 | Some h ↦ h.block.size ]))) (stands.held name ∙ ap (option_map (holding_of name)) none))
 
 pub serves-size : (s : SessionView) → IsKept s → (name : Name) (b : BlockView) → block_with s.blocks name ≡ Some b → Serves s (Size name) (answers.Size (length b.span.bytes)) s
 serves-size s kept name b some =
     serves-told s (Size name) (answers.Size (length b.span.bytes)) kept
-    (λ v stands. ap (λ o. telling (answers.Size (elim o [ None ↦ 0 | Some c ↦ c.size ]))) (stands.held name ∙ ap (option_map block_of) some))
+    (λ v stands. ap (λ (o : Option Holding). telling (answers.Size (elim o [ None ↦ 0 | Some h ↦ h.block.size ]))) (stands.held name ∙ ap (option_map (holding_of name)) some))
 
 module _ (s : SessionView) (kept : IsKept s) (name : Name) (b : BlockView) (block : block_with s.blocks name ≡ Some b) where
   -- bytes that aren't all there aren't shown
@@ -47,7 +47,7 @@ module _ (s : SessionView) (kept : IsKept s) (name : Name) (b : BlockView) (bloc
   serves-no-bytes off count beyond =
       serves-refused s (Show name off count) answers.OutOfRange kept
       (λ v stands.
-      with-some s (setting_of s s v) stands name (λ x. refuse_if (nat_lt x.size (off + count)) answers.OutOfRange (showing x off count)) b block
+      with-some s (setting_of s s v) stands name (λ h. refuse_if (nat_lt h.block.size (off + count)) answers.OutOfRange (showing h.block off count)) b block
       ∙ cond-true (nat_lt (length b.span.bytes) (off + count)) (refused answers.OutOfRange) (showing (block_of b) off count) (lt-ltb (length b.span.bytes) (off + count) beyond))
 
   -- and the others are shown as they are
@@ -64,7 +64,7 @@ module _ (s : SessionView) (kept : IsKept s) (name : Name) (b : BlockView) (bloc
       (λ v stands.
       let known = bytes_of (caller_at v 0) (block_of b) in
       fits-by (setting_of s s v) (record_of (Show name off count) [] (answers.Bytes shown)) s (showing (block_of b) off count)
-      (with-some s (setting_of s s v) stands name (λ x. refuse_if (nat_lt x.size (off + count)) answers.OutOfRange (showing x off count)) b block
+      (with-some s (setting_of s s v) stands name (λ h. refuse_if (nat_lt h.block.size (off + count)) answers.OutOfRange (showing h.block off count)) b block
       ∙ cond-false (nat_lt (length bytes) (off + count)) (refused answers.OutOfRange) (showing (block_of b) off count) (le-ltb (length bytes) (off + count) within))
       (record { shown = shown; many = many; bytes = refl }) refl
       (subst (λ n. is_shown_as (take n (drop off known)) shown ≡ true) (sym many)
@@ -78,16 +78,16 @@ module _ (s : SessionView) (kept : IsKept s) (name : Name) (b : BlockView) (bloc
       serves-refused s (Link name off target) answers.NotHeld kept
       (λ v stands.
       let set = setting_of s s v in
-      with-some s set stands name (λ x. with_held (caller_at v 0) target (λ y. refuse_if (nat_lt x.size (off + 8)) answers.OutOfRange (linking x off y.first))) b block
-      ∙ with-none s set stands target (λ y. refuse_if (nat_lt (length b.span.bytes) (off + 8)) answers.OutOfRange (linking (block_of b) off y.first)) none)
+      with-some s set stands name (λ h. with_held (caller_at v 0) target (λ t. refuse_if (nat_lt h.block.size (off + 8)) answers.OutOfRange (linking h.block off t.block.first))) b block
+      ∙ with-none s set stands target (λ t. refuse_if (nat_lt (length b.span.bytes) (off + 8)) answers.OutOfRange (linking (block_of b) off t.block.first)) none)
 
   module _ (target : Name) (d : BlockView) (there : block_with s.blocks target ≡ Some d) where
     linking-task : (bs : NamedBlocks) (v : Standing) → StandsFor s v → (off : ℕ) →
         task_of (setting_of s (with_blocks s bs) v) (call 0 (Link name off target)) ≡ refuse_if (nat_lt (length b.span.bytes) (off + 8)) answers.OutOfRange (linking (block_of b) off d.span.first)
     linking-task bs v stands off =
         let set = setting_of s (with_blocks s bs) v in
-        with-some s set stands name (λ x. with_held (caller_at v 0) target (λ y. refuse_if (nat_lt x.size (off + 8)) answers.OutOfRange (linking x off y.first))) b block
-        ∙ with-some s set stands target (λ y. refuse_if (nat_lt (length b.span.bytes) (off + 8)) answers.OutOfRange (linking (block_of b) off y.first)) d there
+        with-some s set stands name (λ h. with_held (caller_at v 0) target (λ t. refuse_if (nat_lt h.block.size (off + 8)) answers.OutOfRange (linking h.block off t.block.first))) b block
+        ∙ with-some s set stands target (λ t. refuse_if (nat_lt (length b.span.bytes) (off + 8)) answers.OutOfRange (linking (block_of b) off t.block.first)) d there
 
     -- nor where there is no room for it
     pub serves-no-room : (off : ℕ) → length b.span.bytes < off + 8 → Serves s (Link name off target) answers.OutOfRange s

@@ -11,12 +11,12 @@ use Rattle.mz_lines.specs.declared.answer.Answer.TheVariants as answers
 use Rattle.mz_lines.specs.declared.command.Command.{Command}
 use Rattle.mz_lines.specs.declared.command.Command.TheVariants.{Calloc, Memalign, FreeAt, SizedFree}
 use Rattle.mz_lawful.specs.Records.{call}
-use Rattle.mz_lawful.specs.Standing.{Standing, caller_at}
+use Rattle.mz_lawful.specs.Standing.{Holding, Standing, caller_at}
 use Rattle.mz_lawful.specs.Settings.{Setting}
 use Rattle.mz_lawful.specs.Tasks.{refused, serving, dropping, refuse_if, drop_from, is_alignment, is_wrong_size, request_of, task_of}
 use Rattle.mz_zone.specs.Blocks.{BlockView, block_of}
 use Rattle.mz_session.specs.declared.parcel.Parcel.{Parcel}
-use Rattle.mz_session.specs.Names.{NamedBlocks, BeginsAt, block_with}
+use Rattle.mz_session.specs.Names.{NamedBlocks, BeginsAt, block_with, holding_of}
 use Rattle.mz_session.specs.Sessions.{SessionView, AreNewNames, IsKept, StandsFor}
 use Rattle.mz_session.specs.Changes.{AreWith}
 use Rattle.mz_session.specs.Serving.{Rests, Holds, Takes, IsFree, Serves, setting_of, record_of}
@@ -87,23 +87,23 @@ module _ (s : SessionView) (set : Setting) (stands : StandsFor s set.standing) w
       new-free s set stands (Base word) (λ z. refuse_if (not (is_alignment al)) answers.BadAlign (serving (Base word) (request_of 0 z n (max al 16)) 0)) free
       ∙ cond-true (not (is_alignment al)) (refused answers.BadAlign) (serving (Base word) (request_of 0 0 n (max al 16)) 0) (ap not bad)
 
-  pub sized-right : (name : Name) (n : ℕ) (b : BlockView) → block_with s.blocks name ≡ Some b → is_wrong_size (block_of b) n ≡ false → task_of set (call 0 (SizedFree name n)) ≡ dropping name (block_of b)
+  pub sized-right : (name : Name) (n : ℕ) (b : BlockView) → block_with s.blocks name ≡ Some b → is_wrong_size (block_of b) n ≡ false → task_of set (call 0 (SizedFree name n)) ≡ dropping (holding_of name b)
   sized-right name n b held right =
-      with-some s set stands name (λ (x : Block). refuse_if (is_wrong_size x n) (answers.WrongSize x.size) (dropping name x)) b held
-      ∙ cond-false (is_wrong_size (block_of b) n) (refused (answers.WrongSize (block_of b).size)) (dropping name (block_of b)) right
+      with-some s set stands name (λ (h : Holding). refuse_if (is_wrong_size h.block n) (answers.WrongSize h.block.size) (dropping h)) b held
+      ∙ cond-false (is_wrong_size (block_of b) n) (refused (answers.WrongSize (block_of b).size)) (dropping (holding_of name b)) right
 
   pub sized-wrong : (name : Name) (n : ℕ) (b : BlockView) → block_with s.blocks name ≡ Some b → is_wrong_size (block_of b) n ≡ true → task_of set (call 0 (SizedFree name n)) ≡ refused (answers.WrongSize (block_of b).size)
   sized-wrong name n b held wrong =
-      with-some s set stands name (λ (x : Block). refuse_if (is_wrong_size x n) (answers.WrongSize x.size) (dropping name x)) b held
-      ∙ cond-true (is_wrong_size (block_of b) n) (refused (answers.WrongSize (block_of b).size)) (dropping name (block_of b)) wrong
+      with-some s set stands name (λ (h : Holding). refuse_if (is_wrong_size h.block n) (answers.WrongSize h.block.size) (dropping h)) b held
+      ∙ cond-true (is_wrong_size (block_of b) n) (refused (answers.WrongSize (block_of b).size)) (dropping (holding_of name b)) wrong
 
   nowhere-case :
       (name : Name) (off : ℕ) (o : Option BlockView) → block_with s.blocks name ≡ o
       → ((b : BlockView) → o ≡ Some b → (w : Name) (c : BlockView) → block_with s.blocks w ≡ Some c → c.span.first ≡ b.span.first + off → ⊥)
       → task_of set (call 0 (FreeAt name off)) ≡ refused answers.NotHeld
-  nowhere-case name off None is none = with-none s set stands name (λ (x : Block). drop_from (caller_at set.standing 0) (x.first + off)) is
+  nowhere-case name off None is none = with-none s set stands name (λ (h : Holding). drop_from (caller_at set.standing 0) (h.block.first + off)) is
   nowhere-case name off (Some b) is none =
-      with-some s set stands name (λ (x : Block). drop_from (caller_at set.standing 0) (x.first + off)) b is
+      with-some s set stands name (λ (h : Holding). drop_from (caller_at set.standing 0) (h.block.first + off)) b is
       ∙ from-nowhere s set stands (b.span.first + off) (none b refl)
 
   pub at-nowhere :
@@ -114,7 +114,7 @@ module _ (s : SessionView) (set : Setting) (stands : StandsFor s set.standing) w
 
   pub at-there :
       (name there : Name) (off : ℕ) (b : BlockView) → block_with s.blocks name ≡ Some b → (begins : BeginsAt s.blocks (b.span.first + off) there)
-      → task_of set (call 0 (FreeAt name off)) ≡ dropping there (block_of begins.block)
+      → task_of set (call 0 (FreeAt name off)) ≡ dropping (holding_of there begins.block)
   at-there name there off b held begins =
-      with-some s set stands name (λ (x : Block). drop_from (caller_at set.standing 0) (x.first + off)) b held
+      with-some s set stands name (λ (h : Holding). drop_from (caller_at set.standing 0) (h.block.first + off)) b held
       ∙ from-there s set stands (b.span.first + off) there begins

@@ -16,7 +16,7 @@ use Rattle.mz_lines.specs.declared.answer.Answer.TheVariants as answers
 use Rattle.mz_lines.specs.declared.command.Command.TheVariants.{Give}
 use Rattle.mz_lines.specs.Lines.{command_gives}
 use Rattle.mz_lawful.specs.Names.{same_name}
-use Rattle.mz_lawful.specs.Standing.{Holding, Gift, Standing, Caller, caller_at, bytes_of, with_name, knowing, with_gift, received, delivered}
+use Rattle.mz_lawful.specs.Standing.{Holding, Gift, Standing, Caller, caller_at, bytes_of, holding, knowing, with_gift, received, delivered}
 use Rattle.mz_lawful.specs.Tasks.{giving}
 use Rattle.mz_lawful.specs.After.{changed, without_block}
 use Rattle.mz_book.specs.declared.pair.Pair.{Pair}
@@ -26,7 +26,7 @@ use Rattle.mz_book.specs.Account.{Account}
 use Rattle.mz_book.specs.Plain.{CanGive, Gives}
 use Rattle.mz_zone.specs.Blocks.{BlockView, block_of}
 use Rattle.mz_session.specs.declared.parcel.Parcel.{Parcel}
-use Rattle.mz_session.specs.Names.{NamedBlocks, block_with, block_named}
+use Rattle.mz_session.specs.Names.{NamedBlocks, block_with, holding_of, holding_named}
 use Rattle.mz_session.specs.Changes.{AreWith}
 use Rattle.mz_session.specs.Sessions.{SessionView, views_kept, AreNewNames, Keeps, IsKept, StandsFor, ArePassed, is_given}
 use Rattle.mz_session.specs.Serving.{Takes, IsFree, Serves, AreAtRest, Delivers, setting_of, record_of}
@@ -178,7 +178,7 @@ keeps-sent s p kept free others =
 -- what is on its way besides those of before
 
 passed-more :
-    (gs : List Parcel) (xs : List Gift) (p : Parcel) (x : Gift) → ArePassed gs xs → x ≡ record { to = 0; name = Given p.name; block = block_of p.block; bytes = x.bytes }
+    (gs : List Parcel) (xs : List Gift) (p : Parcel) (x : Gift) → ArePassed gs xs → x ≡ record { to = 0; holding = holding_of (Given p.name) p.block; bytes = x.bytes }
     → IsTrue (is_shown_as x.bytes p.block.span.bytes) → ArePassed (gs ++ p ∷ []) (xs ++ x ∷ [])
 passed-more [] [] p x passed is shown = (is, shown, tt)
 passed-more [] (y ∷ ys) p x passed is shown = absurd passed
@@ -215,14 +215,14 @@ module _ (s u : SessionView) (name : Name) (to : ℕ) (p : Parcel) (kept : IsKep
       go false false c is before = ap (λ d. is_given s n || d) is ∙ or-true (is_given s n)
 
   stands-given : (v : Standing) → StandsFor s v
-      → StandsFor t (with_gift (record { to = to; name = Given p.name; block = block_of p.block; bytes = bytes_of (caller_at v 0) (block_of p.block) }) (changed 0 (without_block name (block_of p.block)) v))
+      → StandsFor t (with_gift (record { to = to; holding = holding_of (Given p.name) p.block; bytes = bytes_of (caller_at v 0) (block_of p.block) }) (changed 0 (without_block (holding_of name p.block)) v))
   stands-given v stands =
       let gone = stands-gone s u v stands takes.1.parcels name p.block takes.2 (λ w c other named. kept-apart s [] kept w name c p.block (name-symm w name ∙ other) named takes.0) in
       let bytes = bytes_of (caller_at v 0) (block_of p.block) in
       record {
         zones = gone.zones;
-        gifts = passed-more u.parcels v.gifts p (record { to = to; name = Given p.name; block = block_of p.block; bytes = bytes }) gone.gifts
-            (ap (λ k. record { to = k; name = Given p.name; block = block_of p.block; bytes = bytes }) one) (stands.known name p.block takes.0);
+        gifts = passed-more u.parcels v.gifts p (record { to = to; holding = holding_of (Given p.name) p.block; bytes = bytes }) gone.gifts
+            (ap (λ k. record { to = k; holding = holding_of (Given p.name) p.block; bytes = bytes }) one) (stands.known name p.block takes.0);
         zone = gone.zone;
         held = gone.held;
         held_once = gone.held_once;
@@ -234,8 +234,8 @@ module _ (s u : SessionView) (name : Name) (to : ℕ) (p : Parcel) (kept : IsKep
   serves-given =
       let at = takes.1.at in
       let fits = λ (v : Standing) (stands : StandsFor s v).
-      fits-by (setting_of s t v) (record_of (Give name to p.name) [] answers.Done) t (giving name (block_of p.block) to (Given p.name))
-      (with-some s (setting_of s t v) stands name (λ b. giving name b to (Given p.name)) p.block takes.0) refl refl refl refl (stands-given v stands) in
+      fits-by (setting_of s t v) (record_of (Give name to p.name) [] answers.Done) t (giving (holding_of name p.block) to (Given p.name))
+      (with-some s (setting_of s t v) stands name (λ h. giving h to (Given p.name)) p.block takes.0) refl refl refl refl (stands-given v stands) in
       record {
         entries = [];
         kept = keeps-sent u p takes.3 free others;
@@ -251,7 +251,7 @@ module _ (s u : SessionView) (name : Name) (to : ℕ) (p : Parcel) (kept : IsKep
 pub serves-not-given : (s t : SessionView) (name : Name) (to : ℕ) (given : GivenName) → IsKept s → Takes s name None t → Serves s (Give name to given) answers.NotHeld t
 serves-not-given s t name to given kept takes =
     subst (λ x. Serves s (Give name to given) answers.NotHeld x) (sym takes.1)
-    (serves-refused s (Give name to given) answers.NotHeld kept (λ v stands. with-none s (setting_of s s v) stands name (λ b. giving name b to (Given given)) takes.0))
+    (serves-refused s (Give name to given) answers.NotHeld kept (λ v stands. with-none s (setting_of s s v) stands name (λ h. giving h to (Given given)) takes.0))
 
 -- at the end of a round
 
@@ -325,23 +325,23 @@ stands-got :
     (s t : SessionView) (v : Standing) → StandsFor s v → t.parcels ≡ s.parcels → (name : Name) (b : BlockView) (bs : Bytes) → AreWith s.blocks name (Some b) t.blocks → block_with s.blocks name ≡ None
     → ((w : Name) (c : BlockView) → block_with s.blocks w ≡ Some c → same_block (block_of c) (block_of b) ≡ false)
     → is_shown_as bs b.span.bytes ≡ true
-    → StandsFor t (changed 0 (λ me. knowing (block_of b) bs (with_name name (block_of b) me)) v)
+    → StandsFor t (changed 0 (λ me. knowing (block_of b) bs (holding (holding_of name b) me)) v)
 stands-got s t v stands coming name b bs with_it free apart shown =
     let x = block_of b in
     let me : Caller = caller_at v 0 in
-    let h : Holding = record { name = name; block = x } in
-    let change = λ (c : Caller). knowing x bs (with_name name x c) in
+    let h : Holding = holding_of name b in
+    let change = λ (c : Caller). knowing x bs (holding h c) in
     stands-changed s t v stands coming change refl
-    (λ w. held-first h me.held w ∙ ap (λ o. cond (same_name name w) (Some x) o) (stands.held w) ∙ given-names s.blocks t.blocks name (Some b) with_it w)
-    (once-more h me.held stands.held_once (stands.held name ∙ ap (option_map block_of) free))
+    (λ w. held-first h me.held w ∙ ap (λ o. cond (same_name name w) (Some h) o) (stands.held w) ∙ given-names s.blocks t.blocks name (Some b) with_it w)
+    (once-more h me.held stands.held_once (stands.held name ∙ ap (option_map (holding_of name)) free))
     (λ w c named. elim (cases_Bool (same_name name w)) [
       | inl same ↦
           let is = some-is b c (sym (with-same s.blocks t.blocks name w (Some b) with_it same) ∙ named) in
           subst (λ y. is_shown_as (bytes_of (change me) (block_of y)) y.span.bytes ≡ true) is
-          (ap (λ ys. is_shown_as ys b.span.bytes) (known-now x bs (with_name name x me)) ∙ shown)
+          (ap (λ ys. is_shown_as ys b.span.bytes) (known-now x bs (holding h me)) ∙ shown)
       | inr other ↦
           let before = sym (with-other s.blocks t.blocks name w (Some b) with_it other) ∙ named in
-          ap (λ ys. is_shown_as ys c.span.bytes) (known-others x (block_of c) bs (with_name name x me) (apart w c before)) ∙ stands.known w c before
+          ap (λ ys. is_shown_as ys c.span.bytes) (known-others x (block_of c) bs (holding h me) (apart w c before)) ∙ stands.known w c before
     ])
 
 -- The session stands for a standing that has the same at the end of the round.
@@ -415,7 +415,7 @@ stands-alike s t v blocks parcels stands = record {
   zones = stands.zones;
   gifts = subst (λ gs. ArePassed gs v.gifts) (sym parcels) stands.gifts;
   zone = stands.zone;
-  held = λ name. stands.held name ∙ ap (λ bs. block_named bs name) (sym blocks);
+  held = λ name. stands.held name ∙ ap (λ bs. holding_named bs name) (sym blocks);
   held_once = stands.held_once;
   known = λ name b named. stands.known name b (ap (λ bs. block_with bs name) (sym blocks) ∙ named);
 }

@@ -11,7 +11,7 @@ use Rattle.mz_words.specs.declared.name.Name.{Name}
 use Rattle.mz_lawful.specs.Names.{same_name}
 use Rattle.mz_lawful.specs.Standing.{Holding, Caller, held_at, held_from}
 use Rattle.mz_zone.specs.Blocks.{BlockView, block_of}
-use Rattle.mz_session.specs.Names.{NamedBlocks, BeginsAt, block_with, block_named, name_from}
+use Rattle.mz_session.specs.Names.{NamedBlocks, BeginsAt, block_with, holding_of, holding_named, name_from}
 use Rattle.mz_session.specs.Changes.{AreWith}
 use Rattle.mz_session.specs.Sessions.{AreHeldOnce}
 use Rattle.mz_session.proofs.CountLemmas.{some-is}
@@ -72,26 +72,25 @@ not-some (Some x) none = absurd (false≢true (sym none))
 
 -- by name
 
--- the block that a name has among holdings
-abbrev pub held_in : List Holding → Name → Option Block
-held_in hs name = option_map (λ h. h.block) (find (λ h. same_name h.name name) hs)
+-- what has the name among holdings
+abbrev pub held_in : List Holding → Name → Option Holding
+held_in hs name = find (λ h. same_name h.name name) hs
 
-pub held-first : (h : Holding) (hs : List Holding) (w : Name) → held_in (h ∷ hs) w ≡ cond (same_name h.name w) (Some h.block) (held_in hs w)
-held-first h hs w =
-    elim (same_name h.name w) as (λ b. option_map (λ x. x.block) (cond b (Some h) (find (λ x. same_name x.name w) hs)) ≡ cond b (Some h.block) (held_in hs w)) [
-      | true ↦ refl
-      | false ↦ refl
-    ]
+pub held-first : (h : Holding) (hs : List Holding) (w : Name) → held_in (h ∷ hs) w ≡ cond (same_name h.name w) (Some h) (held_in hs w)
+held-first h hs w = refl
 
-block-case : (d : Bool) (got o : Option BlockView) → option_map block_of (cond d got o) ≡ cond d (option_map block_of got) (option_map block_of o)
-block-case true got o = refl
-block-case false got o = refl
+holding-case :
+    (name w : Name) (d : Bool) (got o : Option BlockView) → (d ≡ true → name ≡ w)
+    → option_map (holding_of w) (cond d got o) ≡ cond d (option_map (holding_of name) got) (option_map (holding_of w) o)
+holding-case name w true got o same = ap (λ n. option_map (holding_of n) got) (sym (same refl))
+holding-case name w false got o same = refl
 
--- the blocks that names have where one name's block was changed
+-- what names have where one name's block was changed
 pub given-names :
     (old new : NamedBlocks) (name : Name) (got : Option BlockView) → AreWith old name got new
-    → (w : Name) → cond (same_name name w) (option_map block_of got) (block_named old w) ≡ block_named new w
-given-names old new name got with_it w = sym (ap (option_map block_of) (with_it.named w) ∙ block-case (same_name name w) got (block_with old w))
+    → (w : Name) → cond (same_name name w) (option_map (holding_of name) got) (holding_named old w) ≡ holding_named new w
+given-names old new name got with_it w =
+    sym (ap (option_map (holding_of w)) (with_it.named w) ∙ holding-case name w (same_name name w) got (block_with old w) (same-is-name name w))
 
 -- where a name keeps its block, all names do
 kept-case : {A : Type 0} (d : Bool) (b : A) (o : Option A) → (d ≡ true → o ≡ Some b) → cond d (Some b) o ≡ o
@@ -99,10 +98,10 @@ kept-case true b o same = sym (same refl)
 kept-case false b o same = refl
 
 pub kept-names :
-    (old new : NamedBlocks) (name : Name) (b : BlockView) → AreWith old name (Some b) new → block_named old name ≡ Some (block_of b)
-    → (w : Name) → block_named old w ≡ block_named new w
+    (old new : NamedBlocks) (name : Name) (b : BlockView) → AreWith old name (Some b) new → holding_named old name ≡ Some (holding_of name b)
+    → (w : Name) → holding_named old w ≡ holding_named new w
 kept-names old new name b with_it held w =
-    sym (kept-case (same_name name w) (block_of b) (block_named old w) (λ same. ap (block_named old) (sym (same-is-name name w same)) ∙ held))
+    sym (kept-case (same_name name w) (holding_of name b) (holding_named old w) (λ same. ap (holding_named old) (sym (same-is-name name w same)) ∙ held))
     ∙ given-names old new name (Some b) with_it w
 
 -- and what was taken and came back is as before
@@ -121,12 +120,12 @@ put-back old mid new name b held without with_it w =
 other-than : (x name w : Name) → same_name x name ≡ false → same_name x w ≡ true → same_name name w ≡ true → ⊥
 other-than x name w other at_x at_name = false≢true (sym other ∙ ap (same_name x) (same-is-name name w at_name) ∙ at_x)
 
-cond_none : (b : Bool) (x y : Option Block) → (b ≡ false → x ≡ y) → cond b None x ≡ cond b None y
+cond_none : (b : Bool) (x y : Option Holding) → (b ≡ false → x ≡ y) → cond b None x ≡ cond b None y
 cond_none true x y same = refl
 cond_none false x y same = same refl
 
 -- of two tests that don't both pass, either may come first
-either_first : (a b : Bool) (x y : Option Block) → (a ≡ true → b ≡ true → ⊥) → cond a x (cond b None y) ≡ cond b None (cond a x y)
+either_first : (a b : Bool) (x y : Option Holding) → (a ≡ true → b ≡ true → ⊥) → cond a x (cond b None y) ≡ cond b None (cond a x y)
 either_first true true x y apart = absurd (apart refl refl)
 either_first true false x y apart = refl
 either_first false b x y apart = refl
@@ -142,11 +141,11 @@ held-forgotten (h ∷ hs) name w =
           let gone : filter (λ x. not (same_name x.name name)) (h ∷ hs) ≡ left = rw same refl in
           let tests : same_name h.name w ≡ same_name name w = ap (λ x. same_name x w) (same-is-name h.name name same) in
           ap (λ x. held_in x w) gone ∙ rest
-          ∙ cond_none (same_name name w) (held_in hs w) (held_in (h ∷ hs) w) (λ other. sym (held-first h hs w ∙ ap (λ b. cond b (Some h.block) (held_in hs w)) (tests ∙ other)))
+          ∙ cond_none (same_name name w) (held_in hs w) (held_in (h ∷ hs) w) (λ other. sym (held-first h hs w ∙ ap (λ b. cond b (Some h) (held_in hs w)) (tests ∙ other)))
       | inr other ↦
           let stays : filter (λ x. not (same_name x.name name)) (h ∷ hs) ≡ h ∷ left = rw other refl in
-          ap (λ x. held_in x w) stays ∙ held-first h left w ∙ ap (cond (same_name h.name w) (Some h.block)) rest
-          ∙ either_first (same_name h.name w) (same_name name w) (Some h.block) (held_in hs w) (other-than h.name name w other)
+          ap (λ x. held_in x w) stays ∙ held-first h left w ∙ ap (cond (same_name h.name w) (Some h)) rest
+          ∙ either_first (same_name h.name w) (same_name name w) (Some h) (held_in hs w) (other-than h.name name w other)
           ∙ ap (cond (same_name name w) None) (sym (held-first h hs w))
     ]
 
@@ -155,10 +154,10 @@ held-forgotten (h ∷ hs) name w =
 not-held : (hs : List Holding) (name : Name) → held_in hs name ≡ None → (g : Holding) → Contains hs g → same_name g.name name ≡ true → ⊥
 not-held [] name none g there same = contains-nothing g there
 not-held (h ∷ hs) name none g there same = elim (cases_Bool (same_name h.name name)) [
-  | inl here ↦ none-some h.block (sym none ∙ held-first h hs name ∙ ap (λ d. cond d (Some h.block) (held_in hs name)) here)
+  | inl here ↦ none-some h (sym none ∙ held-first h hs name ∙ ap (λ d. cond d (Some h) (held_in hs name)) here)
   | inr other ↦ elim (contains-first h hs g there) [
     | inl is ↦ false≢true (sym other ∙ ap (λ (x : Holding). same_name x.name name) is ∙ same)
-    | inr later ↦ not-held hs name (sym (held-first h hs name ∙ ap (λ d. cond d (Some h.block) (held_in hs name)) other) ∙ none) g later same
+    | inr later ↦ not-held hs name (sym (held-first h hs name ∙ ap (λ d. cond d (Some h) (held_in hs name)) other) ∙ none) g later same
   ]
 ]
 
@@ -176,13 +175,13 @@ once-left f (h ∷ hs) once = left-case (f h) (once-left f hs once.1)
     left-case false rest = rest
 
 -- what is held is found by its name
-held-itself : (hs : List Holding) (g : Holding) → AreHeldOnce hs → Contains hs g → held_in hs g.name ≡ Some g.block
+held-itself : (hs : List Holding) (g : Holding) → AreHeldOnce hs → Contains hs g → held_in hs g.name ≡ Some g
 held-itself [] g once there = absurd (contains-nothing g there)
 held-itself (h ∷ hs) g once there = elim (contains-first h hs g there) [
-  | inl is ↦ held-first h hs g.name ∙ ap (λ d. cond d (Some h.block) (held_in hs g.name)) (ap (λ (x : Holding). same_name h.name x.name) (sym is) ∙ name-self h.name) ∙ ap (λ (x : Holding). Some x.block) is
+  | inl is ↦ held-first h hs g.name ∙ ap (λ d. cond d (Some h) (held_in hs g.name)) (ap (λ (x : Holding). same_name h.name x.name) (sym is) ∙ name-self h.name) ∙ ap Some is
   | inr later ↦ elim (cases_Bool (same_name h.name g.name)) [
     | inl same ↦ absurd (once.0 g later (name-symm g.name h.name ∙ same))
-    | inr other ↦ held-first h hs g.name ∙ ap (λ d. cond d (Some h.block) (held_in hs g.name)) other ∙ held-itself hs g once.1 later
+    | inr other ↦ held-first h hs g.name ∙ ap (λ d. cond d (Some h) (held_in hs g.name)) other ∙ held-itself hs g once.1 later
   ]
 ]
 
@@ -202,13 +201,13 @@ from-none (e ∷ es) a none w c named first = elim (cases_Bool (e.1.span.first =
   ]
 ]
 
-module _ (bs : NamedBlocks) (me : Caller) (held : (name : Name) → held_at me name ≡ block_named bs name) (once : AreHeldOnce me.held) (a : ℕ) where
+module _ (bs : NamedBlocks) (me : Caller) (held : (name : Name) → held_at me name ≡ holding_named bs name) (once : AreHeldOnce me.held) (a : ℕ) where
   -- a holding that is found at the address is that of a name whose block begins there
-  there-named : (h : Holding) → held_from me a ≡ Some h → (c : BlockView) × (block_with bs h.name ≡ Some c) × (block_of c ≡ h.block) × (c.span.first ≡ a)
+  there-named : (h : Holding) → held_from me a ≡ Some h → (c : BlockView) × (block_with bs h.name ≡ Some c) × (holding_of h.name c ≡ h) × (c.span.first ≡ a)
   there-named h found =
       let passes = find-passes (λ (x : Holding). x.block.first == a) me.held h found in
-      let named = mapped-some block_of (block_with bs h.name) h.block (sym (held h.name) ∙ held-itself me.held h once passes.0) in
-      (named.0, named.1, named.2, ap (λ (x : Block). x.first) named.2 ∙ eqb-true h.block.first a passes.1)
+      let named = mapped-some (holding_of h.name) (block_with bs h.name) h (sym (held h.name) ∙ held-itself me.held h once passes.0) in
+      (named.0, named.1, named.2, ap (λ (x : Holding). x.block.first) named.2 ∙ eqb-true h.block.first a passes.1)
 
   pub held-nowhere : ((w : Name) (c : BlockView) → block_with bs w ≡ Some c → c.span.first ≡ a → ⊥) → held_from me a ≡ None
   held-nowhere none = nowhere-case (held_from me a) refl
@@ -217,20 +216,22 @@ module _ (bs : NamedBlocks) (me : Caller) (held : (name : Name) → held_at me n
       nowhere-case None is = refl
       nowhere-case (Some h) is = let there = there-named h is in absurd (none h.name there.0 there.1 there.3)
 
-  pub held-there : (name : Name) (begins : BeginsAt bs a name) → held_from me a ≡ Some (record { name = name; block = block_of begins.block })
+  pub held-there : (name : Name) (begins : BeginsAt bs a name) → held_from me a ≡ Some (holding_of name begins.block)
   held-there name begins = there-case (held_from me a) refl
     where
-      is_held : (h : Holding) × (find (λ x. same_name x.name name) me.held ≡ Some h) × (h.block ≡ block_of begins.block)
-      is_held = mapped-some (λ (h : Holding). h.block) (find (λ x. same_name x.name name) me.held) (block_of begins.block) (held name ∙ ap (option_map block_of) begins.named)
+      mine : Holding
+      mine = holding_of name begins.block
 
-      there-case : (o : Option Holding) → held_from me a ≡ o → o ≡ Some (record { name = name; block = block_of begins.block })
+      is_held : find (λ x. same_name x.name name) me.held ≡ Some mine
+      is_held = held name ∙ ap (option_map (holding_of name)) begins.named
+
+      there-case : (o : Option Holding) → held_from me a ≡ o → o ≡ Some mine
       there-case None is =
-          let passes = find-passes (λ (x : Holding). same_name x.name name) me.held is_held.0 is_held.1 in
+          let passes = find-passes (λ (x : Holding). same_name x.name name) me.held mine is_held in
           absurd (false≢true
-          (sym (find-none (λ (x : Holding). x.block.first == a) me.held is_held.0 is passes.0)
-          ∙ eq-eqb is_held.0.block.first a (ap (λ (x : Block). x.first) is_held.2 ∙ begins.first)))
+          (sym (find-none (λ (x : Holding). x.block.first == a) me.held mine is passes.0) ∙ eq-eqb mine.block.first a begins.first))
       there-case (Some h) is =
           let there = there-named h is in
           let same : h.name ≡ name = begins.only h.name there.0 there.1 there.3 in
           let block : there.0 ≡ begins.block = some-is there.0 begins.block (sym there.1 ∙ ap (block_with bs) same ∙ begins.named) in
-          ap (λ (n : Name). Some (record { name = n; block = h.block })) same ∙ ap (λ (c : Block). Some (record { name = name; block = c })) (sym there.2 ∙ ap block_of block)
+          ap Some (sym there.2) ∙ ap (λ (n : Name). Some (holding_of n there.0)) same ∙ ap (λ (c : BlockView). Some (holding_of name c)) block

@@ -31,7 +31,7 @@ use Rattle.mz_lawful.specs.Fitting.{is_rising_from}
 use Rattle.mz_lawful.specs.After.{changed, with_served, with_batch, without_block, without_blocks}
 use Rattle.mz_record.specs.Bytes.{is_shown_as}
 use Rattle.mz_zone.specs.Blocks.{BlockView, block_of}
-use Rattle.mz_session.specs.Names.{NamedBlocks, block_with, IsFirstInBatch, HasSomeOfBatch}
+use Rattle.mz_session.specs.Names.{NamedBlocks, block_with, holding_of, IsFirstInBatch, HasSomeOfBatch}
 use Rattle.mz_session.specs.Changes.{AreWith}
 use Rattle.mz_session.specs.Sessions.{SessionView, IsKept, StandsFor, AreHeldOnce, ArePassed}
 use Rattle.mz_session.specs.SessionLaws.{SessionLaws}
@@ -139,15 +139,15 @@ in-batch : (base : List ℕ) (count i : ℕ) → i < count → is_in_batch base 
 in-batch base count i within = and_from (bytes_eq base base) (nat_lt i count) ((bytes_eq-Decides base base).1 refl) (lt-ltb i count within)
 
 -- a name of the batch that is held
-some-held : (base : List ℕ) (count i : ℕ) (b : Block) (hs : List Holding) → i < count → held_in hs (batch_name base i) ≡ Some b → list_any (λ h. is_in_batch base count h.name) hs ≡ true
-some-held base count i b [] within held = absurd (none-some b held)
-some-held base count i b (h ∷ hs) within held = elim (cases_Bool (same_name h.name (batch_name base i))) [
+some-held : (base : List ℕ) (count i : ℕ) (g : Holding) (hs : List Holding) → i < count → held_in hs (batch_name base i) ≡ Some g → list_any (λ h. is_in_batch base count h.name) hs ≡ true
+some-held base count i g [] within held = absurd (none-some g held)
+some-held base count i g (h ∷ hs) within held = elim (cases_Bool (same_name h.name (batch_name base i))) [
   | inl same ↦
       ap (λ d. d || list_any (λ x. is_in_batch base count x.name) hs)
       (ap (is_in_batch base count) (same-is-name h.name (batch_name base i) same) ∙ in-batch base count i within)
   | inr other ↦
       or-second (is_in_batch base count h.name) (list_any (λ x. is_in_batch base count x.name) hs)
-      (some-held base count i b hs within (sym (held-first h hs (batch_name base i) ∙ ap (λ d. cond d (Some h.block) (held_in hs (batch_name base i))) other) ∙ held))
+      (some-held base count i g hs within (sym (held-first h hs (batch_name base i) ∙ ap (λ d. cond d (Some h) (held_in hs (batch_name base i))) other) ∙ held))
 ]
   where
     or-second : (a c : Bool) → c ≡ true → (a || c) ≡ true
@@ -163,9 +163,9 @@ none-held base count (h ∷ hs) free =
   where
     here : (i : ℕ) → h.name ≡ batch_name base i → i < count → ⊥
     here i is within =
-        none-some h.block
+        none-some h
         (sym (free i within) ∙ held-first h hs (batch_name base i)
-        ∙ ap (λ d. cond d (Some h.block) (held_in hs (batch_name base i))) (ap (λ n. same_name n (batch_name base i)) is ∙ name-self (batch_name base i)))
+        ∙ ap (λ d. cond d (Some h) (held_in hs (batch_name base i))) (ap (λ n. same_name n (batch_name base i)) is ∙ name-self (batch_name base i)))
 
     not-this : (n : Name) → h.name ≡ n → is_in_batch base count n ≡ false
     not-this (Base a) is = refl
@@ -177,19 +177,19 @@ none-held base count (h ∷ hs) free =
       | inr without ↦ without
     ]
 
-    left : (i : ℕ) (d : Bool) → same_name h.name (batch_name base i) ≡ d → cond (same_name h.name (batch_name base i)) (Some h.block) (held_in hs (batch_name base i)) ≡ None → held_in hs (batch_name base i) ≡ None
-    left i true same none = absurd (none-some h.block (sym none ∙ ap (λ d. cond d (Some h.block) (held_in hs (batch_name base i))) same))
-    left i false other none = sym (ap (λ d. cond d (Some h.block) (held_in hs (batch_name base i))) other) ∙ none
+    left : (i : ℕ) (d : Bool) → same_name h.name (batch_name base i) ≡ d → cond (same_name h.name (batch_name base i)) (Some h) (held_in hs (batch_name base i)) ≡ None → held_in hs (batch_name base i) ≡ None
+    left i true same none = absurd (none-some h (sym none ∙ ap (λ d. cond d (Some h) (held_in hs (batch_name base i))) same))
+    left i false other none = sym (ap (λ d. cond d (Some h) (held_in hs (batch_name base i))) other) ∙ none
 
 -- batches that are served
 
 -- a batch with one more block
-batch-more : (base : List ℕ) (i : ℕ) (bs : List Block) (b : Block) (me : Caller) → with_batch base i (bs ++ b ∷ []) me ≡ with_served (batch_name base (i + length bs)) 0 (Some b) (with_batch base i bs me)
-batch-more base i [] b me = let same : i ≡ i + 0 = omega arith in ap (λ j. with_served (batch_name base j) 0 (Some b) me) same
-batch-more base i (x ∷ bs) b me =
+batch-more : (base : List ℕ) (z i : ℕ) (bs : List Block) (b : Block) (me : Caller) → with_batch base z i (bs ++ b ∷ []) me ≡ with_served (batch_name base (i + length bs)) z 0 (Some b) (with_batch base z i bs me)
+batch-more base z i [] b me = let same : i ≡ i + 0 = omega arith in ap (λ j. with_served (batch_name base j) z 0 (Some b) me) same
+batch-more base z i (x ∷ bs) b me =
     let same : i + 1 + length bs ≡ i + length (x ∷ bs) = omega arith in
-    batch-more base (i + 1) bs b (with_served (batch_name base i) 0 (Some x) me)
-    ∙ ap (λ j. with_served (batch_name base j) 0 (Some b) (with_batch base i (x ∷ bs) me)) same
+    batch-more base z (i + 1) bs b (with_served (batch_name base i) z 0 (Some x) me)
+    ∙ ap (λ j. with_served (batch_name base j) z 0 (Some b) (with_batch base z i (x ∷ bs) me)) same
 
 -- So many of the requests for n bytes have brought blocks, which have the first names of the batch. The others of the first `count` have none.
 pub record Batched (s t : SessionView) (base : List ℕ) (n count got : ℕ) : Type 0 where
@@ -201,7 +201,7 @@ pub record Batched (s t : SessionView) (base : List ℕ) (n count got : ℕ) : T
   pub coming : t.parcels ≡ s.parcels
   pub given : GivesNone s t
   pub served : AreServed s.at.book.profile t.at.book.seen (request_of 0 0 n 16) blocks mine
-  pub stands : (v : Standing) → StandsFor s v → StandsFor t (changed 0 (with_batch base 0 blocks) v)
+  pub stands : (v : Standing) → StandsFor s v → StandsFor t (changed 0 (with_batch base 0 0 blocks) v)
   pub free : (i : ℕ) → got ≤ i → i < count → block_with t.blocks (batch_name base i) ≡ None
   pub within : got ≤ count
 
@@ -215,7 +215,7 @@ batch-first s base n count kept free = record {
   coming = refl;
   given = λ name is. is;
   served = refl;
-  stands = λ v stands. stands-as s v (changed 0 (with_batch base 0 []) v) refl refl refl stands;
+  stands = λ v stands. stands-as s v (changed 0 (with_batch base 0 0 []) v) refl refl refl stands;
   free = λ i from below. free i below;
   within = omega arith;
 }
@@ -254,10 +254,10 @@ module _ (laws : SessionLaws) (s t u : SessionView) (base : List ℕ) (n count g
             (served-more s.at.book.profile (t.at.book.seen ++ new) q begun.blocks begun.mine (block_of b) new
             (served-later laws s.at.book.profile t.at.book.seen new q begun.blocks begun.mine all_lawful (added-there s t begun.mine begun.adds) begun.served) one);
         stands = λ v stands.
-            stands-turned w v (with_served name 0 (Some (block_of b))) (with_batch base 0 begun.blocks) (with_batch base 0 (begun.blocks ++ block_of b ∷ []))
-            (batch-more base 0 begun.blocks (block_of b) (caller_at v 0)
-            ∙ ap (λ j. with_served (batch_name base j) 0 (Some (block_of b)) (with_batch base 0 begun.blocks (caller_at v 0))) place)
-            (stands-made t u w (changed 0 (with_batch base 0 begun.blocks) v) name n 16 0 b makes holds next-free (laws.unknown b.span.bytes) (begun.stands v stands));
+            stands-turned w v (with_served name 0 0 (Some (block_of b))) (with_batch base 0 0 begun.blocks) (with_batch base 0 0 (begun.blocks ++ block_of b ∷ []))
+            (batch-more base 0 0 begun.blocks (block_of b) (caller_at v 0)
+            ∙ ap (λ j. with_served (batch_name base j) 0 0 (Some (block_of b)) (with_batch base 0 0 begun.blocks (caller_at v 0))) place)
+            (stands-made t u w (changed 0 (with_batch base 0 0 begun.blocks) v) name n 16 0 b makes holds next-free (laws.unknown b.span.bytes) (begun.stands v stands));
         free = λ i from below.
             elim (cases_Bool (same_name name (batch_name base i))) [
               | inl same ↦ let is = same-number base got i same in absurd (omega (arith, is, from))
@@ -273,7 +273,7 @@ batch-task :
 batch-task s base n count free t v stands =
     let me = caller_at v 0 in
     cond-false (is_batch_held me base count) (refused answers.Held) (in_zone v me.zone (λ z. batching base count (request_of 0 z n 16)))
-    (none-held base count me.held (λ i within. stands.held (batch_name base i) ∙ ap (option_map block_of) (free i within)))
+    (none-held base count me.held (λ i within. stands.held (batch_name base i) ∙ ap (option_map (holding_of (batch_name base i))) (free i within)))
     ∙ in-default s (setting_of s t v) stands (λ z. batching base count (request_of 0 z n 16))
 
 -- one of the names is held
@@ -283,7 +283,7 @@ batch-refused s base n count kept (i, within, b, named) =
     (λ v stands.
     let me = caller_at v 0 in
     cond-true (is_batch_held me base count) (refused answers.Held) (in_zone v me.zone (λ z. batching base count (request_of 0 z n 16)))
-    (some-held base count i (block_of b) me.held within (stands.held (batch_name base i) ∙ ap (option_map block_of) named)))
+    (some-held base count i (holding_of (batch_name base i) b) me.held within (stands.held (batch_name base i) ∙ ap (option_map (holding_of (batch_name base i))) named)))
 
 -- all came
 pub batch-whole :
@@ -303,7 +303,7 @@ batch-whole laws s t base n count got free begun all =
     (ap answers.Got (sym (ap length made ∙ many)))
     (subst (λ k. ServeInTurn s.at.book.profile t.at.book.seen q k es) number (in-turn-all s.at.book.profile t.at.book.seen q bs es begun.served))
     refl begun.adds.rising
-    (subst (λ cs. StandsFor t (changed 0 (with_batch base 0 cs) v)) (sym made) (begun.stands v stands)))
+    (subst (λ cs. StandsFor t (changed 0 (with_batch base 0 0 cs) v)) (sym made) (begun.stands v stands)))
 
 -- the last brought none
 pub batch-null :
@@ -334,8 +334,8 @@ batch-null laws s t u base n count got free begun more lawful e makes =
     (ap answers.Got (sym (ap length made ∙ many)))
     (subst (λ x. ServeInTurn p x q count (es ++ last)) (sym adds_u.seen) (in-turn-null p h q (count - (length bs + 1)) count bs es last served null number))
     refl adds.rising
-    (subst (λ cs. StandsFor u (changed 0 (with_batch base 0 cs) v)) (sym made)
-    (stands-same t u (changed 0 (with_batch base 0 bs) v) (begun.stands v stands) makes.notes.parcels (λ w. ap (λ cs. block_with cs w) makes.notes.blocks))))
+    (subst (λ cs. StandsFor u (changed 0 (with_batch base 0 0 cs) v)) (sym made)
+    (stands-same t u (changed 0 (with_batch base 0 0 bs) v) (begun.stands v stands) makes.notes.parcels (λ w. ap (λ cs. block_with cs w) makes.notes.blocks))))
 
 -- batches that end
 
@@ -385,7 +385,7 @@ module _ (s t : SessionView) (base : List ℕ) (freed k : ℕ) (begun : Unbatche
       → AreLawful w.at.book.profile opening w.at.book.seen → Unbatched s w base (freed + 1)
   unbatch-on laws u w b takes ends lawful =
       let name = batch_name base k in
-      let h : Holding = record { name = name; block = block_of b } in
+      let h : Holding = holding_of name b in
       let new = ends.mine in
       let hs = begun.ended in
       let p = s.at.book.profile in
@@ -416,12 +416,12 @@ module _ (s t : SessionView) (base : List ℕ) (freed k : ℕ) (begun : Unbatche
             let me = without_blocks hs (caller_at v 0) in
             begun.held v stands
             ∙ ap (λ xs. hs ++ xs)
-            (batch-begins base MOST_IN_BATCH k (block_of b) me.held within now.held_once (now.held name ∙ ap (option_map block_of) takes.0)
-            (λ i below. now.held (batch_name base i) ∙ ap (option_map block_of) (first.1 i below)))
-            ∙ sym (append_assoc hs (h ∷ []) (batch_held (without_block name (block_of b) me) base))
+            (batch-begins base MOST_IN_BATCH k h me.held refl within now.held_once (now.held name ∙ ap (option_map (holding_of name)) takes.0)
+            (λ i below. now.held (batch_name base i) ∙ ap (option_map (holding_of (batch_name base i))) (first.1 i below)))
+            ∙ sym (append_assoc hs (h ∷ []) (batch_held (without_block h me) base))
             ∙ ap (λ x. (hs ++ h ∷ []) ++ batch_held x base) (sym (gone v));
         stands = λ v stands.
-            stands-turned w v (without_block name (block_of b)) (without_blocks hs) (without_blocks (hs ++ h ∷ [])) (gone v)
+            stands-turned w v (without_block h) (without_blocks hs) (without_blocks (hs ++ h ∷ [])) (gone v)
             (stands-dropped t u w (changed 0 (without_blocks hs) v) name b begun.kept takes ends (begun.stands v stands));
         none = λ i below.
             elim (cases_Bool (nat_lt i k)) [
@@ -434,8 +434,8 @@ module _ (s t : SessionView) (base : List ℕ) (freed k : ℕ) (begun : Unbatche
         within = omega (arith, low, within);
       }
     where
-      gone : (v : Standing) → without_blocks (begun.ended ++ record { name = batch_name base k; block = block_of b } ∷ []) (caller_at v 0) ≡ without_block (batch_name base k) (block_of b) (without_blocks begun.ended (caller_at v 0))
-      gone v = fold-append (λ x h. without_block h.name h.block x) (caller_at v 0) begun.ended (record { name = batch_name base k; block = block_of b } ∷ [])
+      gone : (v : Standing) → without_blocks (begun.ended ++ holding_of (batch_name base k) b ∷ []) (caller_at v 0) ≡ without_block (holding_of (batch_name base k) b) (without_blocks begun.ended (caller_at v 0))
+      gone v = fold-append (λ x h. without_block h x) (caller_at v 0) begun.ended (holding_of (batch_name base k) b ∷ [])
 
 -- all have ended
 pub unbatch-whole : (s t : SessionView) (base : List ℕ) (freed : ℕ) → Unbatched s t base freed → IsFirstInBatch t.blocks base None → Serves s (command.Unbatch base) (answers.Freed freed) t
@@ -449,6 +449,6 @@ unbatch-whole s t base freed begun none =
     (ap unbatching
     (begun.held v stands
     ∙ ap (λ xs. hs ++ xs)
-    (batch-empty base MOST_IN_BATCH (without_blocks hs (caller_at v 0)).held (λ i. now.held (batch_name base i) ∙ ap (option_map block_of) (none i)))
+    (batch-empty base MOST_IN_BATCH (without_blocks hs (caller_at v 0)).held (λ i. now.held (batch_name base i) ∙ ap (option_map (holding_of (batch_name base i))) (none i)))
     ∙ append-nil hs))
     (ap answers.Freed (sym begun.many)) begun.drops refl begun.adds.rising now)

@@ -1,19 +1,18 @@
 -- The blocks of a batch by number: where no lower number is held, they begin with the block of this one, and the others are those without it.
 use Rattle.std.proofs.Common.{◌≡◌, ℕ, ◌<◌, Bool, true, false, cond, not, List, [], ◌∷◌, filter, Option, Some, None, refl, ap, sym, subst, ◌∙◌, ◌⊎◌, inl, inr, ⊎_elim, arith}
 use Rattle.std.specs.Prelude.{nat_lt, find, Contains, IsTrue}
-use Rattle.std.specs.Option.{option_map}
 use Rattle.std.specs.Str.{bytes_eq}
 use Rattle.std.proofs.lemmas.Bool.{false≢true, cases_Bool, and_parts, and_from, lt-ltb, le-ltb, ltb-true, ltb-false}
 use Rattle.std.proofs.lemmas.Option.{none-some}
 use Rattle.std.proofs.lemmas.Slice.Eq.{bytes_eq-Decides}
 use Rattle.mz_base.specs.Lists.{insert_by}
-use Rattle.mz_base.specs.Space.{Block}
 use Rattle.mz_words.specs.declared.name.Name.{Name}
 use Rattle.mz_words.specs.declared.name.Name.TheVariants.{Base, Batch, Given}
 use Rattle.mz_lawful.specs.Names.{same_name, batch_name, is_in_batch, index_of}
 use Rattle.mz_lawful.specs.Standing.{Holding, by_index}
 use Rattle.mz_session.specs.Sessions.{AreHeldOnce}
 use Rattle.mz_session.proofs.CountLemmas.{some-is}
+use Rattle.mz_session.proofs.HeldLemmas.{held_in}
 use Rattle.mz_session.proofs.NameLemmas.{name-self, same-is-name, first-or-later, here-first, later-too}
 
 abbrev key : Holding → ℕ
@@ -78,26 +77,14 @@ all-pass f [] pass = refl
 all-pass f (x ∷ xs) pass =
     ap (λ d. cond d (x ∷ filter f xs) (filter f xs)) (pass x (here-first x xs)) ∙ ap (λ ys. x ∷ ys) (all-pass f xs (λ y there. pass y (later-too x xs y there)))
 
--- the block that a name has among these
-
-abbrev pub held_in : List Holding → Name → Option Block
-held_in hs name = option_map (λ h. h.block) (find (λ h. same_name h.name name) hs)
-
-found-case : (x : Holding) (o : Option Holding) (d : Bool) → option_map (λ (h : Holding). h.block) (cond d (Some x) o) ≡ cond d (Some x.block) (option_map (λ (h : Holding). h.block) o)
-found-case x o true = refl
-found-case x o false = refl
-
-held-head : (x : Holding) (xs : List Holding) (name : Name) → held_in (x ∷ xs) name ≡ cond (same_name x.name name) (Some x.block) (held_in xs name)
-held-head x xs name = found-case x (find (λ h. same_name h.name name) xs) (same_name x.name name)
-
--- each name that stands among these has a block
+-- each name that stands among these is held
 named-there : (xs : List Holding) (y : Holding) → Contains xs y → held_in xs y.name ≡ None → ⊥
 named-there [] y there none = let low = there.1 in omega (arith, low)
 named-there (x ∷ xs) y there none = elim (cases_Bool (same_name x.name y.name)) [
-  | inl same ↦ none-some x.block (sym none ∙ held-head x xs y.name ∙ ap (λ d. cond d (Some x.block) (held_in xs y.name)) same)
+  | inl same ↦ none-some x (sym none ∙ ap (λ d. cond d (Some x) (held_in xs y.name)) same)
   | inr other ↦
       ⊎_elim (λ (here : x ≡ y). false≢true (sym other ∙ ap (λ z. same_name z.name y.name) here ∙ name-self y.name))
-      (λ (later : Contains xs y). named-there xs y later (sym (held-head x xs y.name ∙ ap (λ d. cond d (Some x.block) (held_in xs y.name)) other) ∙ none))
+      (λ (later : Contains xs y). named-there xs y later (sym (ap (λ d. cond d (Some x) (held_in xs y.name)) other) ∙ none))
       (first-or-later x xs y there)
 ]
 
@@ -146,17 +133,16 @@ later-step f h x xs other low rest =
     (sym (ap (λ d. cond (not d) (x ∷ filter (others h.name) xs) (filter (others h.name) xs)) other))
 
 pub lowest-first :
-    (f : Holding → Bool) (h : Holding) (xs : List Holding) → f h ≡ true → AreHeldOnce xs → held_in xs h.name ≡ Some h.block → IsLowest f h xs → IsFirstOf f h xs
-lowest-first f h [] passes once found lowest = absurd (none-some h.block found)
+    (f : Holding → Bool) (h : Holding) (xs : List Holding) → f h ≡ true → AreHeldOnce xs → held_in xs h.name ≡ Some h → IsLowest f h xs → IsFirstOf f h xs
+lowest-first f h [] passes once found lowest = absurd (none-some h found)
 lowest-first f h (x ∷ xs) passes once found lowest = elim (cases_Bool (same_name x.name h.name)) [
   | inl same ↦
-      let block = some-is x.block h.block (sym (held-head x xs h.name ∙ ap (λ d. cond d (Some x.block) (held_in xs h.name)) same) ∙ found) in
-      let is : x ≡ h = ap (λ n. record { name = n; block = x.block }) (same-is-name x.name h.name same) ∙ ap (λ b. record { name = h.name; block = b }) block in
+      let is : x ≡ h = some-is x h (sym (ap (λ d. cond d (Some x) (held_in xs h.name)) same) ∙ found) in
       subst (λ y. IsFirstOf f h (y ∷ xs)) (sym is)
       (here-step f h xs passes (not-named h.name x xs same once.0) (λ y there. lowest y (later-too x xs y there)))
   | inr other ↦
       later-step f h x xs other (λ met. lowest x (here-first x xs) met other)
-      (lowest-first f h xs passes once.1 (sym (held-head x xs h.name ∙ ap (λ d. cond d (Some x.block) (held_in xs h.name)) other) ∙ found) (λ y there. lowest y (later-too x xs y there)))
+      (lowest-first f h xs passes once.1 (sym (ap (λ d. cond d (Some x) (held_in xs h.name)) other) ∙ found) (λ y there. lowest y (later-too x xs y there)))
 ]
 
 -- at a batch: the block of number k, where none of a lower number is held
@@ -181,13 +167,14 @@ above-name base count k xs lower y there (Batch b) is within other =
     ]
 
 pub batch-begins :
-    (base : List ℕ) (count k : ℕ) (b : Block) (xs : List Holding) → k < count → AreHeldOnce xs → held_in xs (batch_name base k) ≡ Some b
+    (base : List ℕ) (count k : ℕ) (h : Holding) (xs : List Holding) → h.name ≡ batch_name base k → k < count → AreHeldOnce xs → held_in xs (batch_name base k) ≡ Some h
     → ((i : ℕ) → i < k → held_in xs (batch_name base i) ≡ None)
-    → IsFirstOf (λ h. is_in_batch base count h.name) (record { name = batch_name base k; block = b }) xs
-batch-begins base count k b xs within once found lower =
-    lowest-first (λ h. is_in_batch base count h.name) (record { name = batch_name base k; block = b }) xs
-    (and_from (bytes_eq base base) (nat_lt k count) ((bytes_eq-Decides base base).1 refl) (lt-ltb k count within)) once found
-    (λ y there passes other. above-name base count k xs lower y there y.name refl passes other)
+    → IsFirstOf (λ g. is_in_batch base count g.name) h xs
+batch-begins base count k h xs is within once found lower =
+    lowest-first (λ g. is_in_batch base count g.name) h xs
+    (ap (is_in_batch base count) is ∙ and_from (bytes_eq base base) (nat_lt k count) ((bytes_eq-Decides base base).1 refl) (lt-ltb k count within)) once
+    (ap (held_in xs) is ∙ found)
+    (λ y there passes other. above-name base count k xs lower y there y.name refl passes (ap (same_name y.name) (sym is) ∙ other))
 
 -- and where no number is held, there are none
 none-first : (base : List ℕ) (count : ℕ) (xs : List Holding) → ((i : ℕ) → held_in xs (batch_name base i) ≡ None) → (y : Holding) → Contains xs y → (n : Name) → y.name ≡ n → is_in_batch base count n ≡ false

@@ -10,7 +10,6 @@ mod KeepLemmas
 mod PlaceLemmas
 mod CallLemmas
 mod OneLemmas
-mod ZoneLemmas
 mod RemakeLemmas
 mod TestLemmas
 mod OpenedLemmas

@@ -25,7 +25,7 @@ use Rattle.mz_lawful.specs.After.{after_task, after_record, changed, with_served
 use Rattle.mz_rack.specs.declared.lot.Null.{Null}
 use Rattle.mz_zone.specs.Blocks.{BlockView, block_of}
 use Rattle.mz_zone.specs.Answering.{IsCleared}
-use Rattle.mz_session.specs.Names.{BeginsAt, block_with}
+use Rattle.mz_session.specs.Names.{BeginsAt, block_with, holding_of}
 use Rattle.mz_session.specs.Changes.{AreWith}
 use Rattle.mz_session.specs.Sessions.{SessionView, IsKept, StandsFor, is_given}
 use Rattle.mz_session.specs.SessionLaws.{SessionLaws}
@@ -171,7 +171,7 @@ serves-made L s u t command name n al clear b makes holds free shown own task =
     (given-other s t name (Some b) own coming (subst (λ bs. AreWith bs name (Some b) t.blocks) makes.notes.blocks holds.blocks))
     (λ v stands.
     fits-by (setting_of s t v) (record_of command mine answer) t (serving name q clear) (task v stands) (ap block_answer made) request refl makes.notes.rising
-    (subst (λ o. StandsFor t (changed 0 (with_served name clear o) v)) made (stands-made s u t v name n al clear b makes holds free shown stands)))
+    (subst (λ o. StandsFor t (changed 0 (with_served name 0 clear o) v)) made (stands-made s u t v name n al clear b makes holds free shown stands)))
 
 -- none came
 pub serves-null :
@@ -189,12 +189,12 @@ serves-null L s t command name n al clear e makes task =
     serves-noted s t t command answers.Null mine makes.notes refl makes.keeps (given-same s t coming same)
     (λ v stands.
     fits-by (setting_of s t v) (record_of command mine answers.Null) t (serving name q clear) (task v stands) (ap block_answer made) request refl makes.notes.rising
-    (subst (λ o. StandsFor t (changed 0 (with_served name clear o) v)) made (stands-unserved s t v stands coming name clear same)))
+    (subst (λ o. StandsFor t (changed 0 (with_served name 0 clear o) v)) made (stands-unserved s t v stands coming name 0 clear same)))
 
 -- a block ended, and its name with it
 pub serves-dropped :
     (s u t : SessionView) (command : Command) (name : Name) (b : BlockView) → IsKept s → Takes s name (Some b) u → Ends u b t
-    → ((v : Standing) → StandsFor s v → task_of (setting_of s t v) (call 0 command) ≡ dropping name (block_of b))
+    → ((v : Standing) → StandsFor s v → task_of (setting_of s t v) (call 0 command) ≡ dropping (holding_of name b))
     → Serves s command answers.Done t
 serves-dropped s u t command name b kept takes ends task =
     let at = takes.1.at in
@@ -205,7 +205,7 @@ serves-dropped s u t command name b kept takes ends task =
     serves-by s t command answers.Done mine ends.kept (notes.profile ∙ ap (λ x. x.book.profile) at) (notes.seen ∙ ap (λ x. x.book.seen ++ mine) at) notes.mine
     (given-less s t name coming with_it)
     (λ v stands.
-    fits-by (setting_of s t v) (record_of command mine answers.Done) t (dropping name (block_of b)) (task v stands) refl
+    fits-by (setting_of s t v) (record_of command mine answers.Done) t (dropping (holding_of name b)) (task v stands) refl
     (subst (λ x. IsDropped x.book.profile t.at.book.seen (block_of b) mine) at ends.dropped) refl
     (subst (λ x. is_rising_from (above x.book.seen) mine ≡ true) at notes.rising)
     (stands-dropped s u t v name b kept takes ends stands))
@@ -215,9 +215,9 @@ module _ (s : SessionView) (set : Setting) (stands : StandsFor s set.standing) w
   abbrev me : Caller
   me = caller_at set.standing 0
 
-  mapped-is : (o : Option BlockView) → is_some (option_map block_of o) ≡ is_some o
-  mapped-is None = refl
-  mapped-is (Some b) = refl
+  mapped-is : (name : Name) (o : Option BlockView) → is_some (option_map (holding_of name) o) ≡ is_some o
+  mapped-is name None = refl
+  mapped-is name (Some b) = refl
 
   default-is-open : zone_number set.standing me.zone ≡ Some 0
   default-is-open =
@@ -231,28 +231,28 @@ module _ (s : SessionView) (set : Setting) (stands : StandsFor s set.standing) w
   -- a name that is held isn't given again
   pub new-held : (name : Name) (task : ℕ → Task) → is_some (block_with s.blocks name) ≡ true → with_new set.standing me name task ≡ refused answers.Held
   new-held name task some =
-      cond-true (is_held me name) (refused answers.Held) (in_zone set.standing me.zone task) (ap is_some (stands.held name) ∙ mapped-is (block_with s.blocks name) ∙ some)
+      cond-true (is_held me name) (refused answers.Held) (in_zone set.standing me.zone task) (ap is_some (stands.held name) ∙ mapped-is name (block_with s.blocks name) ∙ some)
 
   -- with one that isn't this is done
   pub new-free : (name : Name) (task : ℕ → Task) → block_with s.blocks name ≡ None → with_new set.standing me name task ≡ task 0
   new-free name task free =
-      cond-false (is_held me name) (refused answers.Held) (in_zone set.standing me.zone task) (ap is_some (stands.held name) ∙ ap is_some (ap (option_map block_of) free))
+      cond-false (is_held me name) (refused answers.Held) (in_zone set.standing me.zone task) (ap is_some (stands.held name) ∙ ap is_some (ap (option_map (holding_of name)) free))
       ∙ in-default task
 
   -- nothing is done with the block of a name that isn't held
-  pub with-none : (name : Name) (task : Block → Task) → block_with s.blocks name ≡ None → with_held me name task ≡ refused answers.NotHeld
-  with-none name task none = ap (λ (o : Option Block). elim o [ None ↦ refused answers.NotHeld | Some b ↦ task b ]) (stands.held name ∙ ap (option_map block_of) none)
+  pub with-none : (name : Name) (task : Holding → Task) → block_with s.blocks name ≡ None → with_held me name task ≡ refused answers.NotHeld
+  with-none name task none = ap (λ (o : Option Holding). elim o [ None ↦ refused answers.NotHeld | Some h ↦ task h ]) (stands.held name ∙ ap (option_map (holding_of name)) none)
 
   -- and this is done with that of one that is
-  pub with-some : (name : Name) (task : Block → Task) (b : BlockView) → block_with s.blocks name ≡ Some b → with_held me name task ≡ task (block_of b)
-  with-some name task b some = ap (λ (o : Option Block). elim o [ None ↦ refused answers.NotHeld | Some c ↦ task c ]) (stands.held name ∙ ap (option_map block_of) some)
+  pub with-some : (name : Name) (task : Holding → Task) (b : BlockView) → block_with s.blocks name ≡ Some b → with_held me name task ≡ task (holding_of name b)
+  with-some name task b some = ap (λ (o : Option Holding). elim o [ None ↦ refused answers.NotHeld | Some h ↦ task h ]) (stands.held name ∙ ap (option_map (holding_of name)) some)
 
   -- nothing ends at an address where no block of a name begins
   pub from-nowhere : (a : ℕ) → ((w : Name) (c : BlockView) → block_with s.blocks w ≡ Some c → c.span.first ≡ a → ⊥) → drop_from me a ≡ refused answers.NotHeld
   from-nowhere a none =
-      ap (λ (o : Option Holding). elim o [ None ↦ refused answers.NotHeld | Some h ↦ dropping h.name h.block ]) (held-nowhere s.blocks me stands.held stands.held_once a none)
+      ap (λ (o : Option Holding). elim o [ None ↦ refused answers.NotHeld | Some h ↦ dropping h ]) (held-nowhere s.blocks me stands.held stands.held_once a none)
 
   -- and where one does that one is to end
-  pub from-there : (a : ℕ) (name : Name) (begins : BeginsAt s.blocks a name) → drop_from me a ≡ dropping name (block_of begins.block)
+  pub from-there : (a : ℕ) (name : Name) (begins : BeginsAt s.blocks a name) → drop_from me a ≡ dropping (holding_of name begins.block)
   from-there a name begins =
-      ap (λ (o : Option Holding). elim o [ None ↦ refused answers.NotHeld | Some h ↦ dropping h.name h.block ]) (held-there s.blocks me stands.held stands.held_once a name begins)
+      ap (λ (o : Option Holding). elim o [ None ↦ refused answers.NotHeld | Some h ↦ dropping h ]) (held-there s.blocks me stands.held stands.held_once a name begins)

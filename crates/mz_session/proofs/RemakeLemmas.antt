@@ -14,15 +14,14 @@ use Rattle.mz_events.specs.declared.event.Event.TheVariants.{Size}
 use Rattle.mz_events.specs.Changes.{one_for}
 use Rattle.mz_events.specs.Hands.{hand_after, hand_through}
 use Rattle.mz_record.specs.Served.{events}
-use Rattle.mz_record.specs.Resized.{IsResized, same_size, in_place, still_large, Moves, to_nothing, between_ranges, out_of_nano, large, hemmed_in, IsMoved, moved as moved_on, not_moved}
-use Rattle.mz_record.specs.Moments.{state_at}
-use Rattle.mz_record.specs.Zones.{zone_of_block}
+use Rattle.mz_record.specs.Resized.{Resize, IsResized, same_size, in_place, still_large, Moves, to_nothing, between_ranges, out_of_nano, large, hemmed_in, IsMoved, moved as moved_on, not_moved}
 use Rattle.mz_record.specs.Bytes.{kept_in_place, kept_in_move, is_shown_as}
 use Rattle.mz_lawful.specs.Settings.{above, least_ticket}
 use Rattle.mz_lawful.specs.After.{bytes_kept}
 use Rattle.mz_book.specs.Account.{Account, IsOrderly, hand}
 use Rattle.mz_book.specs.Living.{times}
 use Rattle.mz_rack.specs.declared.lot.Null.{Null}
+use Rattle.mz_rack.specs.Resizing.{resize_at}
 use Rattle.mz_nano.specs.Lists.{In}
 use Rattle.mz_zone.specs.declared.fault.NotLiveBlock.{NotLiveBlock}
 use Rattle.mz_zone.specs.declared.fault.ReallocFault.{ReallocFault}
@@ -32,11 +31,10 @@ use Rattle.mz_zone.specs.Calling.{AtView, Goes, hand_in}
 use Rattle.mz_zone.specs.Moving.{Reallocs, Stays, MovesOn, Resizes, known}
 use Rattle.mz_session.specs.SessionLaws.{SessionLaws}
 use Rattle.mz_session.specs.Sessions.{SessionView, IsOurs, views_kept, blocks_kept, Keeps}
-use Rattle.mz_session.specs.Serving.{Remakes}
+use Rattle.mz_session.specs.Serving.{resize_of, Remakes}
 use Rattle.mz_session.proofs.CountLemmas.{some-is, same-self, same-is, one-true, one-false, count-cons, count-append, count-gone, count-others}
 use Rattle.mz_session.proofs.KeepLemmas.{loose-counted, there-first, there-behind, kept-more, kept-fewer, kept-loose, only-loose, kept-beside}
 use Rattle.mz_session.proofs.PlaceLemmas.{other-slot}
-use Rattle.mz_session.proofs.ZoneLemmas.{zone-kept}
 use Rattle.mz_session.specs.Asking.{HasMoreRoom, roomier, moved, HasAsked}
 use Rattle.mz_session.proofs.CallLemmas.{notes-call, more-seen, above-before, same-profile, hand-through-mine, ours-stays, keeps-moved, in-added, in-dropped, symmetric, not-denied}
 
@@ -116,9 +114,10 @@ resized-hand p bs b d n es once (in_place k one other by is) = λ c.
 resized-hand p bs b d n es once (still_large old new stays none is) = as-before bs b d es once none (some-is d b is)
 
 moved-hand :
-    (L : SessionLaws) (p : Profile) (h es : List Entry) (t c z n : ℕ) (b d : Block) (bs : List Block) → same_block b d ≡ false
-    → IsMoved p h t t c z b n es (Some d) → IsWithOther bs b d (hand_through bs es)
-moved-hand L p h es t c z n b d bs other (moved_on x news olds moves split serves drops got) = λ y.
+    (L : SessionLaws) (p : Profile) (h es : List Entry) (r : Resize) (d : Block) (bs : List Block) → same_block r.block d ≡ false
+    → IsMoved p h r es (Some d) → IsWithOther bs r.block d (hand_through bs es)
+moved-hand L p h es r d bs other (moved_on x news olds moves split serves drops got) = λ y.
+    let b = r.block in
     let is : d ≡ x = some-is d x got in
     let made : hand_through bs news ≡ bs ++ x ∷ [] = L.served _ _ _ news (Some x) bs serves.served in
     let left : hand_through bs es ≡ drop_block b (bs ++ x ∷ []) =
@@ -138,18 +137,18 @@ moved-hand L p h es t c z n b d bs other (moved_on x news olds moves split serve
           let one = count-cons y d [] in
           omega (arith, whole, all, old, more, one)
     ]
-moved-hand L p h es t c z n b d bs other (not_moved moves serves none) = absurd (some-none d none)
+moved-hand L p h es r d bs other (not_moved moves serves none) = absurd (some-none d none)
   where
     some-none : (d : Block) → ◌≡◌ {A = Option Block} (Some d) None → ⊥
     some-none d is = cc
 
 stayed-hand :
-    (L : SessionLaws) (p : Profile) (h es : List Entry) (t c z n : ℕ) (b : Block) (bs : List Block) → IsMoved p h t t c z b n es None → hand_through bs es ≡ bs
-stayed-hand L p h es t c z n b bs (moved_on x news olds moves split serves drops got) = absurd (none-some x got)
+    (L : SessionLaws) (p : Profile) (h es : List Entry) (r : Resize) (bs : List Block) → IsMoved p h r es None → hand_through bs es ≡ bs
+stayed-hand L p h es r bs (moved_on x news olds moves split serves drops got) = absurd (none-some x got)
   where
     none-some : (d : Block) → ◌≡◌ {A = Option Block} None (Some d) → ⊥
     none-some d is = cc
-stayed-hand L p h es t c z n b bs (not_moved moves serves none) = L.served _ _ _ es None bs serves.served ∙ append-nil bs
+stayed-hand L p h es r bs (not_moved moves serves none) = L.served _ _ _ es None bs serves.served ∙ append-nil bs
 
 -- when a block had to move
 
@@ -160,27 +159,31 @@ least-above t n (e ∷ es) low each =
     let rest = least-above t n es low (λ x there. each x (there-behind e x es there)) in
     omega (arith, first, rest)
 
+-- the same, asked from an earlier time on, and at the latest when the first of these entries came
+abbrev from_low : List Entry → List Entry → ℕ → Resize → Resize
+from_low h es low r = record r { low = low; high = least_ticket (length h) es }
+
 wider-moves :
-    (p : Profile) (h es : List Entry) (t low n : ℕ) (b : Block) → low ≤ t → ((e : Entry) → Contains es e → t ≤ e.ticket) → Moves p h t t b n
-    → Moves p h low (least_ticket (length h) es) b n
-wider-moves p h es t low n b after each (to_nothing none) = to_nothing none
-wider-moves p h es t low n b after each (between_ranges other ranges) = between_ranges other ranges
-wider-moves p h es t low n b after each (out_of_nano other lies) = out_of_nano other lies
-wider-moves p h es t low n b after each (large old new leaves) = large old new leaves
-wider-moves p h es t low n b after each (hemmed_in one grows was) =
+    (p : Profile) (h es : List Entry) (low : ℕ) (r : Resize) → low ≤ r.low → ((e : Entry) → Contains es e → r.high ≤ e.ticket) → Moves p h r
+    → Moves p h (from_low h es low r)
+wider-moves p h es low r after each (to_nothing none) = to_nothing none
+wider-moves p h es low r after each (between_ranges other ranges) = between_ranges other ranges
+wider-moves p h es low r after each (out_of_nano other lies) = out_of_nano other lies
+wider-moves p h es low r after each (large old new leaves) = large old new leaves
+wider-moves p h es low r after each (hemmed_in one grows was) =
     hemmed_in one grows (record {
       t = was.t;
       not_before = let a = was.not_before in omega (arith, after, a);
-      not_after = least-above was.t (length h) es was.within (λ e there. let a = was.not_after in let b = each e there in omega (arith, a, b));
+      not_after = least-above was.t (length h) es was.within (λ e there. let a = was.not_after in let c = each e there in omega (arith, a, c));
       within = was.within;
       hemmed = was.hemmed;
     })
 
 wider :
-    (p : Profile) (h es : List Entry) (t low c z n : ℕ) (b : Block) (got : Option Block) → low ≤ t → ((e : Entry) → Contains es e → t ≤ e.ticket)
-    → IsMoved p h t t c z b n es got → IsMoved p h low (least_ticket (length h) es) c z b n es got
-wider p h es t low c z n b got after each (moved_on x news olds moves split serves drops is) = moved_on x news olds (wider-moves p h es t low n b after each moves) split serves drops is
-wider p h es t low c z n b got after each (not_moved moves serves none) = not_moved (wider-moves p h es t low n b after each moves) serves none
+    (p : Profile) (h es : List Entry) (low : ℕ) (r : Resize) (got : Option Block) → low ≤ r.low → ((e : Entry) → Contains es e → r.high ≤ e.ticket)
+    → IsMoved p h r es got → IsMoved p h (from_low h es low r) es got
+wider p h es low r got after each (moved_on x news olds moves split serves drops is) = moved_on x news olds (wider-moves p h es low r after each moves) split serves drops is
+wider p h es low r got after each (not_moved moves serves none) = not_moved (wider-moves p h es low r after each moves) serves none
 
 -- bytes
 
@@ -239,26 +242,26 @@ module _ (L : SessionLaws) (s : SessionView) (x : BlockView) (kept : Keeps s (x 
       hand_of_s : List Block
       hand_of_s = hand s.at.book
 
-  zone-then : (mine : List Entry) → Goes (roomier s b) mine w → zone_of_block (state_at s.at.book.profile w.book.seen (above s.at.book.seen)) (block_of x) ≡ Some 0
-  zone-then mine goes = zone-kept L s x [] kept before w.book mine (same-profile L s (x ∷ []) kept b room w mine goes orderly) (more-seen L s (x ∷ []) kept b room w mine goes orderly) orderly
-
   other-of : (y : BlockView) → Contains (views_kept s []) y → same_block (block_of x) (block_of y) ≡ false
   other-of y still = symmetric (block_of y) (block_of x) (kept-beside s x [] kept y still)
 
   moved-then :
       (got : Option Block) (mine : List Entry) (t : ℕ) → length b.seen ≤ t → ((e : Entry) → Contains mine e → t ≤ e.ticket)
-      → IsMoved b.profile w.book.seen t t b.caller s.zone.zone (block_of x) n mine got → Goes (roomier s b) mine w
-      → IsMoved s.at.book.profile w.book.seen (above s.at.book.seen) (least_ticket (length w.book.seen) mine) 0 0 (block_of x) n mine got
+      → IsMoved b.profile w.book.seen (resize_at b t s.zone.zone (block_of x) n) mine got → Goes (roomier s b) mine w
+      → IsMoved s.at.book.profile w.book.seen (resize_of s x n (least_ticket (length w.book.seen) mine)) mine got
   moved-then got mine t seen noted moves goes =
       let low : above s.at.book.seen ≤ t =
       let a = above-before L s (x ∷ []) kept b room w mine goes orderly in
       let l = ap (λ v. length v.seen) room in
       omega (arith, a, l, seen)
       in
-      subst (λ z. IsMoved s.at.book.profile w.book.seen (above s.at.book.seen) (least_ticket (length w.book.seen) mine) 0 z (block_of x) n mine got) kept.zone
-      (subst (λ c. IsMoved s.at.book.profile w.book.seen (above s.at.book.seen) (least_ticket (length w.book.seen) mine) c s.zone.zone (block_of x) n mine got) (ap (λ v. v.caller) room ∙ kept.caller)
-      (subst (λ p. IsMoved p w.book.seen (above s.at.book.seen) (least_ticket (length w.book.seen) mine) b.caller s.zone.zone (block_of x) n mine got) (ap (λ v. v.profile) room)
-      (wider b.profile w.book.seen mine t (above s.at.book.seen) b.caller s.zone.zone n (block_of x) got low noted moves)))
+      subst (λ z. IsMoved s.at.book.profile w.book.seen (asked 0 z mine) mine got) (sym (not-denied s x [] kept))
+      (subst (λ c. IsMoved s.at.book.profile w.book.seen (asked c s.zone.zone mine) mine got) (ap (λ v. v.caller) room ∙ kept.caller)
+      (subst (λ p. IsMoved p w.book.seen (asked b.caller s.zone.zone mine) mine got) (ap (λ v. v.profile) room)
+      (wider b.profile w.book.seen mine (above s.at.book.seen) (resize_at b t s.zone.zone (block_of x) n) got low noted moves)))
+    where
+      asked : ℕ → ℕ → List Entry → Resize
+      asked c z mine = record { caller = c; zone = z; block = block_of x; bytes = n; low = above s.at.book.seen; high = least_ticket (length w.book.seen) mine }
 
   stays-remade : (d : BlockView) → Stays (roomier s b) x n d w → IsAtItsSlot d → Remakes s x n (Some d) (moved s w)
   stays-remade d stays placed =
@@ -269,7 +272,6 @@ module _ (L : SessionLaws) (s : SessionView) (x : BlockView) (kept : Keeps s (x 
         mine = mine;
         notes = notes-call L s (x ∷ []) kept b room w mine goes orderly;
         resizing = inl (subst (λ (p : Profile). IsResized p (block_of x) n mine (Some (block_of d))) (ap (λ a. a.profile) room) stays.resized);
-        zone = zone-then mine goes;
         keeps = keeps-moved L s (x ∷ []) kept b room w mine goes orderly (d ∷ [])
             (λ y at. elim (kept-fewer s y d [] at) [
               | inl same ↦ subst (IsOurs w) same (subst (IsOurs w) (sym stays.place) (ours-there d stays placed (ours-stays L s (x ∷ []) kept b room w mine goes orderly x (λ h is in_it. subst (In h) (sym stays.hand) in_it) was)))
@@ -299,7 +301,6 @@ module _ (L : SessionLaws) (s : SessionView) (x : BlockView) (kept : Keeps s (x 
         mine = mine;
         notes = notes-call L s (x ∷ []) kept b room w mine goes orderly;
         resizing = inr (moved-then (Some (block_of d)) mine on.t (on.before.all_seen) on.before.none_noted on.moved goes);
-        zone = zone-then mine goes;
         keeps = keeps-moved L s (x ∷ []) kept b room w mine goes orderly (d ∷ [])
             (λ y at. elim (kept-fewer s y d [] at) [
               | inl same ↦ subst (IsOurs w) same (record {
@@ -313,7 +314,7 @@ module _ (L : SessionLaws) (s : SessionView) (x : BlockView) (kept : Keeps s (x 
                   (in-dropped x.slot h (slot_added d.slot (hand_in s.at.nano)) (λ k at_k. other-slot L s (x ∷ []) kept before x y k h there (kept-more s y x [] old) at_k is (other-of y old)) (in-added d.slot h (hand_in s.at.nano) in_it)))
                   (kept.ours y (kept-more s y x [] old))
             ])
-            (with-other d (hand w.book) (λ c. ap (times c) (hand-through-mine L s (x ∷ []) kept b room w mine goes orderly) ∙ moved-hand L b.profile w.book.seen mine on.t b.caller s.zone.zone n (block_of x) (block_of d) (hand s.at.book) other on.moved c));
+            (with-other d (hand w.book) (λ c. ap (times c) (hand-through-mine L s (x ∷ []) kept b room w mine goes orderly) ∙ moved-hand L b.profile w.book.seen mine (resize_at b on.t s.zone.zone (block_of x) n) (block_of d) (hand s.at.book) other on.moved c));
         bytes = λ e is. subst (λ v. is_shown_as (bytes_kept n (block_of x) (block_of v) (known x)) v.span.bytes ≡ true) (some-is d e is) (bytes-moved n x d on.elsewhere on.bytes);
       }
 
@@ -325,10 +326,9 @@ module _ (L : SessionLaws) (s : SessionView) (x : BlockView) (kept : Keeps s (x 
         mine = mine;
         notes = notes-call L s (x ∷ []) kept b room w mine goes orderly;
         resizing = inr (moved-then None mine on.t (on.before.all_seen) on.before.none_noted on.moved goes);
-        zone = zone-then mine goes;
         keeps = keeps-moved L s (x ∷ []) kept b room w mine goes orderly (x ∷ [])
             (λ y at. ours-stays L s (x ∷ []) kept b room w mine goes orderly y (λ h is in_it. subst (In h) (sym on.hand) in_it) (kept.ours y at))
-            (λ c. ap (times c) (hand-through-mine L s (x ∷ []) kept b room w mine goes orderly ∙ stayed-hand L b.profile w.book.seen mine on.t b.caller s.zone.zone n (block_of x) (hand s.at.book) on.moved) ∙ kept.in_hand c);
+            (λ c. ap (times c) (hand-through-mine L s (x ∷ []) kept b room w mine goes orderly ∙ stayed-hand L b.profile w.book.seen mine (resize_at b on.t s.zone.zone (block_of x) n) (hand s.at.book) on.moved) ∙ kept.in_hand c);
         bytes = λ d is. absurd (none-is d is);
       }
     where

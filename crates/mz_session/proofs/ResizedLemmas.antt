@@ -18,29 +18,28 @@ use Rattle.mz_lines.specs.declared.command.Command.TheVariants.{Realloc}
 use Rattle.mz_lines.specs.declared.renaming.Names.{Names}
 use Rattle.mz_lines.specs.Commands.{old_name, new_name}
 use Rattle.mz_record.specs.Bytes.{Bytes, fresh, kept, kept_in_place, kept_in_move, is_shown_as}
-use Rattle.mz_record.specs.Moments.{state_at, first_some}
+use Rattle.mz_record.specs.Moments.{first_some}
 use Rattle.mz_base.specs.declared.range.TheConstants.{PAGE}
 use Rattle.mz_record.specs.Served.{events, size_for, block_made, first_made, Request, IsServed, by_nano, by_magazine, by_depot, by_fresh_region, null_in_range, by_cache, by_fresh_run, null_in_large}
-use Rattle.mz_record.specs.Resized.{same_size, in_place, still_large, moved, not_moved, IsReallocated, reallocated, moving_request}
-use Rattle.mz_record.specs.Zones.{zone_of_block}
+use Rattle.mz_record.specs.Resized.{Resize, same_size, in_place, still_large, moved, not_moved, IsReallocated, reallocated, moving_request}
 use Rattle.mz_lawful.specs.Names.{same_name}
 use Rattle.mz_lawful.specs.Records.{call}
 use Rattle.mz_lawful.specs.Settings.{Setting, above, least_ticket}
-use Rattle.mz_lawful.specs.Standing.{Holding, Caller, Standing, caller_at, is_held, bytes_of, with_name, without_name, forgetting}
+use Rattle.mz_lawful.specs.Standing.{Holding, Caller, Standing, caller_at, is_held, bytes_of, holding, without_name, forgetting}
 use Rattle.mz_lawful.specs.Tasks.{Task, refused, resizing, refuse_if, with_held, resize, task_of}
-use Rattle.mz_lawful.specs.Fitting.{IsReallocatedInZone, block_answer, is_rising_from}
+use Rattle.mz_lawful.specs.Fitting.{AreEntries, block_answer, is_rising_from}
 use Rattle.mz_lawful.specs.After.{bytes_kept, changed, with_resized}
 use Rattle.mz_zone.specs.Blocks.{BlockView, block_of}
-use Rattle.mz_session.specs.Names.{NamedBlocks, block_with, block_named}
+use Rattle.mz_session.specs.Names.{NamedBlocks, block_with, holding_of, holding_named}
 use Rattle.mz_session.specs.Changes.{AreWith}
 use Rattle.mz_session.specs.Sessions.{SessionView, IsKept, StandsFor}
 use Rattle.mz_session.specs.SessionLaws.{SessionLaws}
-use Rattle.mz_session.specs.Serving.{Holds, Takes, IsFree, IsKeptOrBase, Remakes, Serves, setting_of, record_of}
+use Rattle.mz_session.specs.Serving.{resize_of, Holds, Takes, IsFree, IsKeptOrBase, Remakes, Serves, setting_of, record_of}
 use Rattle.mz_session.proofs.CountLemmas.{some-is}
 use Rattle.mz_session.proofs.NameLemmas.{same-is-name, name-symm}
 use Rattle.mz_session.proofs.HeldLemmas.{held_in, held-first, held-forgotten, given-names, put-back, once-more, once-left}
 use Rattle.mz_session.proofs.KnownLemmas.{known-now, known-others, known-forgotten}
-use Rattle.mz_session.proofs.KeepLemmas.{kept-apart, loose-apart}
+use Rattle.mz_session.proofs.KeepLemmas.{there-first, kept-loose, kept-apart, loose-apart}
 use Rattle.mz_session.proofs.StandsLemmas.{stands-changed}
 use Rattle.mz_session.proofs.RecordLemmas.{GivesNone, fits-by, serves-by, given-still, given-same, with-none, with-some}
 use Rattle.mz_session.proofs.CommandLemmas.{free-again}
@@ -121,24 +120,27 @@ module _ (s t : SessionView) (v : Standing) (stands : StandsFor s v) (coming : t
       → AreWith mid new (Some d) t.blocks → block_with mid new ≡ None
       → ((w : Name) (c : BlockView) → same_name old w ≡ false → block_with s.blocks w ≡ Some c → same_block (block_of c) (block_of b) ≡ false)
       → ((w : Name) (c : BlockView) → same_name old w ≡ false → block_with s.blocks w ≡ Some c → same_block (block_of c) (block_of d) ≡ false)
-      → is_shown_as (bytes_kept n (block_of b) (block_of d) (map (λ x. Some x) b.span.bytes)) d.span.bytes ≡ true
-      → StandsFor t (changed 0 (with_resized old new (block_of b) n (Some (block_of d))) v)
-  stands-resized old new n b d mid held without with_it free apart other shown =
+      → is_shown_as (bytes_kept n (block_of b) (block_of d) (map (λ x. Some x) b.span.bytes)) d.span.bytes ≡ true → d.zone ≡ b.zone
+      → StandsFor t (changed 0 (with_resized new (holding_of old b) n (Some (block_of d))) v)
+  stands-resized old new n b d mid held without with_it free apart other shown one_zone =
       let x = block_of b in
       let y = block_of d in
       let bs : Bytes = bytes_kept n x y (bytes_of me x) in
-      let h : Holding = record { name = new; block = y } in
+      let was : Holding = holding_of old b in
+      let h : Holding = record { name = new; block = y; zone = b.zone } in
       let left : List Holding = filter (λ g. not (same_name g.name old)) me.held in
-      let left_is : (w : Name) → held_in left w ≡ block_named mid w =
+      let left_is : (w : Name) → held_in left w ≡ holding_named mid w =
       λ w. held-forgotten me.held old w ∙ ap (λ o. cond (same_name old w) None o) (stands.held w) ∙ given-names s.blocks mid old None without w in
-      stands-changed s t v stands coming (with_resized old new x n (Some y)) refl
-      (λ w. held-first h left w ∙ ap (λ o. cond (same_name new w) (Some y) o) (left_is w) ∙ given-names mid t.blocks new (Some d) with_it w)
-      (once-more h left (once-left (λ g. not (same_name g.name old)) me.held stands.held_once) (left_is new ∙ ap (option_map block_of) free))
+      stands-changed s t v stands coming (with_resized new was n (Some y)) refl
+      (λ w. held-first h left w ∙ ap (λ o. cond (same_name new w) (Some h) o) (left_is w)
+      ∙ ap (λ z. cond (same_name new w) (Some (record { name = new; block = y; zone = z })) (holding_named mid w)) (sym one_zone)
+      ∙ given-names mid t.blocks new (Some d) with_it w)
+      (once-more h left (once-left (λ g. not (same_name g.name old)) me.held stands.held_once) (left_is new ∙ ap (option_map (holding_of new)) free))
       (λ w c named. elim (cases_Bool (same_name new w)) [
         | inl same ↦
             let is : d ≡ c = some-is d c (sym (ap (λ k. cond k (Some d) (block_with mid w)) same) ∙ sym (with_it.named w) ∙ named) in
-            subst (λ z. is_shown_as (bytes_of (with_resized old new x n (Some y) me) (block_of z)) z.span.bytes ≡ true) is
-            (ap (λ ys. is_shown_as ys d.span.bytes) (known-now y bs (forgetting x (with_name new y (without_name old me))))
+            subst (λ z. is_shown_as (bytes_of (with_resized new was n (Some y) me) (block_of z)) z.span.bytes ≡ true) is
+            (ap (λ ys. is_shown_as ys d.span.bytes) (known-now y bs (forgetting x (holding h (without_name old me))))
             ∙ resized-weaker n x y (bytes_of me x) b.span.bytes d.span.bytes (stands.known old b held) shown)
         | inr differs ↦
             let in_mid : block_with mid w ≡ Some c = sym (ap (λ k. cond k (Some d) (block_with mid w)) differs) ∙ sym (with_it.named w) ∙ named in
@@ -147,17 +149,17 @@ module _ (s t : SessionView) (v : Standing) (stands : StandsFor s v) (coming : t
               | inr stays ↦
                   let before : block_with s.blocks w ≡ Some c = sym (ap (λ k. cond k None (block_with s.blocks w)) stays) ∙ sym (without.named w) ∙ in_mid in
                   ap (λ ys. is_shown_as ys c.span.bytes)
-                  (known-others y (block_of c) bs (forgetting x (with_name new y (without_name old me))) (other w c stays before)
-                  ∙ known-forgotten x (block_of c) (with_name new y (without_name old me)) (apart w c stays before))
+                  (known-others y (block_of c) bs (forgetting x (holding h (without_name old me))) (other w c stays before)
+                  ∙ known-forgotten x (block_of c) (holding h (without_name old me)) (apart w c stays before))
                   ∙ stands.known w c before
             ]
       ])
 
   -- none came, and all names have the blocks of before
-  pub stands-unresized : (old new : Name) (n : ℕ) (b : Block) → ((w : Name) → block_with t.blocks w ≡ block_with s.blocks w) → StandsFor t (changed 0 (with_resized old new b n None) v)
-  stands-unresized old new n b same =
-      stands-changed s t v stands coming (with_resized old new b n None) refl
-      (λ w. stands.held w ∙ ap (option_map block_of) (sym (same w)))
+  pub stands-unresized : (new : Name) (n : ℕ) (h : Holding) → ((w : Name) → block_with t.blocks w ≡ block_with s.blocks w) → StandsFor t (changed 0 (with_resized new h n None) v)
+  stands-unresized new n h same =
+      stands-changed s t v stands coming (with_resized new h n None) refl
+      (λ w. stands.held w ∙ ap (option_map (holding_of w)) (sym (same w)))
       stands.held_once
       (λ w c named. stands.known w c (sym (same w) ∙ named))
 
@@ -208,19 +210,18 @@ null-entries p h q es got (null_in_large first last flushes large parts ev fl dr
 
 -- what becomes of a block by its entries is the block that they gave
 pub got-is-reallocated :
-    (L : SessionLaws) (p : Profile) (h : List Entry) (low high c z : ℕ) (b : Block) (n : ℕ) (es : List Entry) (got : Option Block)
-    → IsReallocated p h low high c z b n es got → got ≡ reallocated b es
-got-is-reallocated L p h low high c z b n es got (inl (same_size asked size none is)) = is ∙ ap (reallocated b) (sym none)
-got-is-reallocated L p h low high c z b n es got (inl (in_place k one size ev is)) =
-    with-entries b es got (λ empty. no-events es empty ev) (is ∙ sym (made-of-events es ∙ ap (λ xs. first_some (map block_made xs)) ev))
-got-is-reallocated L p h low high c z b n es got (inl (still_large old new stays none is)) = is ∙ ap (reallocated b) (sym none)
-got-is-reallocated L p h low high c z b n es got (inr (moved d news olds moves parts serves drops is)) =
-    let first : Some d ≡ first_made news = L.made p h (moving_request c z n) news (Some d) serves.served in
+    (L : SessionLaws) (p : Profile) (h : List Entry) (r : Resize) (es : List Entry) (got : Option Block) → IsReallocated p h r es got → got ≡ reallocated r.block es
+got-is-reallocated L p h r es got (inl (same_size asked size none is)) = is ∙ ap (reallocated r.block) (sym none)
+got-is-reallocated L p h r es got (inl (in_place k one size ev is)) =
+    with-entries r.block es got (λ empty. no-events es empty ev) (is ∙ sym (made-of-events es ∙ ap (λ xs. first_some (map block_made xs)) ev))
+got-is-reallocated L p h r es got (inl (still_large old new stays none is)) = is ∙ ap (reallocated r.block) (sym none)
+got-is-reallocated L p h r es got (inr (moved d news olds moves parts serves drops is)) =
+    let first : Some d ≡ first_made news = L.made p h (moving_request r) news (Some d) serves.served in
     let whole : first_made es ≡ Some d =
     ap first_made parts ∙ ap first_some (maps-append news olds) ∙ first-in-front (map (λ (e : Entry). block_made e.event) news) (map (λ (e : Entry). block_made e.event) olds) d (sym first) in
-    with-entries b es got (λ empty. none-some d (sym (ap first_made empty) ∙ whole)) (is ∙ sym whole)
-got-is-reallocated L p h low high c z b n es got (inr (not_moved moves serves is)) =
-    with-entries b es got (λ empty. null-entries p h (moving_request c z n) es None serves.served refl empty) (is ∙ L.made p h (moving_request c z n) es None serves.served)
+    with-entries r.block es got (λ empty. none-some d (sym (ap first_made empty) ∙ whole)) (is ∙ sym whole)
+got-is-reallocated L p h r es got (inr (not_moved moves serves is)) =
+    with-entries r.block es got (λ empty. null-entries p h (moving_request r) es None serves.served refl empty) (is ∙ L.made p h (moving_request r) es None serves.served)
 
 -- what is to be done
 
@@ -236,14 +237,14 @@ module _ (s : SessionView) (set : Setting) (stands : StandsFor s set.standing) (
   abbrev caller : Caller
   caller = caller_at set.standing 0
 
-  abbrev resized_if : Block → Task
-  resized_if x = refuse_if (not (same_name new old) && is_held caller new) answers.Held (resizing old new x n)
+  abbrev resized_if : Holding → Task
+  resized_if h = refuse_if (not (same_name new old) && is_held caller new) answers.Held (resizing new h n)
 
   by-names : task_of set (call 0 (Realloc names n)) ≡ with_held caller old resized_if
   by-names = ap (λ (o : Option Name). resize set.standing 0 o (new_name names) n) old_is ∙ ap (λ (w : Name). resize set.standing 0 (Some old) w n) new_is
 
   held-is : is_held caller new ≡ is_some (block_with s.blocks new)
-  held-is = ap is_some (stands.held new) ∙ is-case block_of (block_with s.blocks new)
+  held-is = ap is_some (stands.held new) ∙ is-case (holding_of new) (block_with s.blocks new)
 
   pub resize-none : block_with s.blocks old ≡ None → task_of set (call 0 (Realloc names n)) ≡ refused answers.NotHeld
   resize-none none = by-names ∙ with-none s set stands old resized_if none
@@ -253,15 +254,15 @@ module _ (s : SessionView) (set : Setting) (stands : StandsFor s set.standing) (
       → task_of set (call 0 (Realloc names n)) ≡ refused answers.Held
   resize-held b held other some =
       by-names ∙ with-some s set stands old resized_if b held
-      ∙ cond-true (not (same_name new old) && is_held caller new) (refused answers.Held) (resizing old new (block_of b) n)
+      ∙ cond-true (not (same_name new old) && is_held caller new) (refused answers.Held) (resizing new (holding_of old b) n)
       (and_from (not (same_name new old)) (is_held caller new) (ap not other) (held-is ∙ some))
 
   pub resize-free :
       (b : BlockView) → block_with s.blocks old ≡ Some b → (same_name new old ≡ true) ⊎ (block_with s.blocks new ≡ None)
-      → task_of set (call 0 (Realloc names n)) ≡ resizing old new (block_of b) n
+      → task_of set (call 0 (Realloc names n)) ≡ resizing new (holding_of old b) n
   resize-free b held free =
       by-names ∙ with-some s set stands old resized_if b held
-      ∙ cond-false (not (same_name new old) && is_held caller new) (refused answers.Held) (resizing old new (block_of b) n)
+      ∙ cond-false (not (same_name new old) && is_held caller new) (refused answers.Held) (resizing new (holding_of old b) n)
       (elim free [
         | inl same ↦ ap (λ d. not d && is_held caller new) same
         | inr none ↦ and-none (not (same_name new old)) (is_held caller new) (held-is ∙ ap is_some none)
@@ -304,35 +305,34 @@ module _ (L : SessionLaws) (s u w t : SessionView) (names : Names) (old new : Na
 
   became : option_map block_of got ≡ reallocated x mine
   became =
-      got-is-reallocated L u.at.book.profile w.at.book.seen (above u.at.book.seen) (least_ticket (length w.at.book.seen) mine) 0 0 x n mine (option_map block_of got)
+      got-is-reallocated L u.at.book.profile w.at.book.seen (resize_of u b n (least_ticket (length w.at.book.seen) mine)) mine (option_map block_of got)
       remakes.resizing
 
-  in_zone : (v : Standing) → IsReallocatedInZone (setting_of s t v) 0 x n mine
-  in_zone v = record {
-    z = 0;
-    zone = subst (λ a. zone_of_block (state_at s.at.book.profile a.book.seen (above s.at.book.seen)) x ≡ Some 0) (sym held)
-        (subst (λ a. zone_of_block (state_at a.book.profile w.at.book.seen (above a.book.seen)) x ≡ Some 0) taken remakes.zone);
-    entries =
-        subst (λ es. IsReallocated s.at.book.profile t.at.book.seen (above s.at.book.seen) (least_ticket (length t.at.book.seen) es) 0 0 x n mine (reallocated x mine))
-        (sym (own-behind 0 s.at.book.seen t.at.book.seen mine seen-is remakes.notes.mine))
-        (subst (λ a. IsReallocated s.at.book.profile a.book.seen (above s.at.book.seen) (least_ticket (length a.book.seen) mine) 0 0 x n mine (reallocated x mine)) (sym held)
-        (subst (λ a. IsReallocated a.book.profile w.at.book.seen (above a.book.seen) (least_ticket (length w.at.book.seen) mine) 0 0 x n mine (reallocated x mine)) taken
-        (subst (λ o. IsReallocated u.at.book.profile w.at.book.seen (above u.at.book.seen) (least_ticket (length w.at.book.seen) mine) 0 0 x n mine o) became remakes.resizing)));
-  }
+  -- what is asked, where so much was seen before, and these entries come at the latest
+  asked : List Entry → List Entry → ℕ → Resize
+  asked before mine_now count = record { caller = 0; zone = b.zone; block = x; bytes = n; low = above before; high = least_ticket count mine_now }
+
+  does-so : (v : Standing) → AreEntries (setting_of s t v) 0 (resizing new (holding_of old b) n) mine
+  does-so v =
+      subst (λ es. IsReallocated s.at.book.profile t.at.book.seen (asked s.at.book.seen es (length t.at.book.seen)) mine (reallocated x mine))
+      (sym (own-behind 0 s.at.book.seen t.at.book.seen mine seen-is remakes.notes.mine))
+      (subst (λ a. IsReallocated s.at.book.profile a.book.seen (asked s.at.book.seen mine (length a.book.seen)) mine (reallocated x mine)) (sym held)
+      (subst (λ a. IsReallocated a.book.profile w.at.book.seen (asked a.book.seen mine (length w.at.book.seen)) mine (reallocated x mine)) taken
+      (subst (λ o. IsReallocated u.at.book.profile w.at.book.seen (asked u.at.book.seen mine (length w.at.book.seen)) mine o) became remakes.resizing)))
 
   serves-remade :
       IsKept t → GivesNone s t
-      → ((v : Standing) → StandsFor s v → task_of (setting_of s t v) (call 0 (Realloc names n)) ≡ resizing old new x n)
-      → ((v : Standing) → StandsFor s v → StandsFor t (changed 0 (with_resized old new x n (option_map block_of got)) v))
+      → ((v : Standing) → StandsFor s v → task_of (setting_of s t v) (call 0 (Realloc names n)) ≡ resizing new (holding_of old b) n)
+      → ((v : Standing) → StandsFor s v → StandsFor t (changed 0 (with_resized new (holding_of old b) n (option_map block_of got)) v))
       → Serves s (Realloc names n) (block_answer (option_map block_of got)) t
   serves-remade kept given task stand =
       let answer = block_answer (option_map block_of got) in
       serves-by s t (Realloc names n) answer mine kept
       (ap (λ a. a.book.profile) held ∙ remakes.notes.profile ∙ ap (λ a. a.book.profile) taken) seen-is remakes.notes.mine given
       (λ v stands.
-      fits-by (setting_of s t v) (record_of (Realloc names n) mine answer) t (resizing old new x n) (task v stands) (ap block_answer became) (in_zone v) refl
+      fits-by (setting_of s t v) (record_of (Realloc names n) mine answer) t (resizing new (holding_of old b) n) (task v stands) (ap block_answer became) (does-so v) refl
       (subst (λ a. is_rising_from (above a.book.seen) mine ≡ true) taken remakes.notes.rising)
-      (subst (λ o. StandsFor t (changed 0 (with_resized old new x n o) v)) became (stand v stands)))
+      (subst (λ o. StandsFor t (changed 0 (with_resized new (holding_of old b) n o) v)) became (stand v stands)))
 
 -- the names under which blocks were given are those of before, where the new name is the old one or a base name
 given-resized :
@@ -390,7 +390,8 @@ serves-resized L s u w t names old new n b d kept kind takes remakes holds free 
     (λ m c other named.
     loose-apart w d [] remakes.keeps m c
     (ap (λ bs. block_with bs m) notes.blocks ∙ takes.2.named m ∙ ap (λ k. cond k None (block_with s.blocks m)) other ∙ named))
-    (remakes.bytes d refl))
+    (remakes.bytes d refl)
+    ((remakes.keeps.ours d (kept-loose w (d ∷ []) d (there-first d []))).zone ∙ sym (takes.3.ours b (kept-loose u (b ∷ []) b (there-first b []))).zone))
 
 -- none came, and the block has its name again
 pub serves-unresized :
@@ -403,7 +404,7 @@ serves-unresized L s u w t names old new n b takes remakes holds free old_is new
     put-back s.blocks u.blocks t.blocks old b takes.0 takes.2 (subst (λ bs. AreWith bs old (Some b) t.blocks) notes.blocks holds.blocks) in
     serves-remade L s u w t names old new n b None remakes takes.1.at holds.renames.at holds.kept (given-same s t coming same)
     (λ v stands. resize-free s (setting_of s t v) stands names old new n old_is new_is b takes.0 free)
-    (λ v stands. stands-unresized s t v stands coming old new n (block_of b) same)
+    (λ v stands. stands-unresized s t v stands coming new n (holding_of old b) same)
 
 -- names are one where the test of the code says so
 

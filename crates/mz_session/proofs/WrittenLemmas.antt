@@ -146,6 +146,6 @@ module _ (s : SessionView) (bs : NamedBlocks) (name : Name) (b : BlockView) (ws 
       let d = does v in
       fits-by (setting_of s t v) (record_of command [] answers.Done) t (task v) (is v stands) d.0 d.1.0 (d.1.1.1 answers.Done) refl
       (subst (StandsFor t) (sym d.1.1.0)
-      (stands-written s t v stands refl name b c (known v) held (written-block b ws many) with_it
+      (stands-written s t v stands refl name b c (known v) held refl (written-block b ws many) with_it
       (λ w x other named. kept-apart s [] kept w name x b (name-symm w name ∙ other) named held)
       (subst (λ xs. is_shown_as (known v) xs ≡ true) (sym (written-bytes b ws many)) (shown v stands)))))

@@ -6,6 +6,7 @@ use Rattle.std.specs.BTreeMap.{BTreeMap, get}
 use Rattle.mz_base.specs.Space.{Block}
 use Rattle.mz_words.specs.declared.name.Name.{Name}
 use Rattle.mz_lawful.specs.Names.{same_name, batch_name}
+use Rattle.mz_lawful.specs.Standing.{Holding}
 use Rattle.mz_zone.specs.Blocks.{BlockView, block_of}
 
 -- names with their blocks, in the order of the names
@@ -24,9 +25,13 @@ abbrev pub block_with : NamedBlocks → Name → Option BlockView
 block_with [] name = None
 block_with (e ∷ es) name = if same_name e.0 name then Some e.1 else block_with es name
 
--- and as contracts of a run see it
-abbrev pub block_named : NamedBlocks → Name → Option Block
-block_named bs name = option_map block_of (block_with bs name)
+-- a block under a name, as contracts of a run see it
+abbrev pub holding_of : Name → BlockView → Holding
+holding_of name b = record { name = name; block = block_of b; zone = b.zone }
+
+-- what is held under a name, or none
+abbrev pub holding_named : NamedBlocks → Name → Option Holding
+holding_named bs name = option_map (holding_of name) (block_with bs name)
 
 -- the name whose block begins at the address, or none
 abbrev pub name_from : NamedBlocks → ℕ → Option Name

@@ -16,9 +16,7 @@ use Rattle.mz_trace.specs.declared.tail.Figures.{Figures}
 use Rattle.mz_record.specs.Bytes.{is_shown_as}
 use Rattle.mz_record.specs.Served.{Serves as ServesRequest}
 use Rattle.mz_record.specs.Dropped.{IsDropped}
-use Rattle.mz_record.specs.Resized.{IsReallocated}
-use Rattle.mz_record.specs.Moments.{state_at}
-use Rattle.mz_record.specs.Zones.{zone_of_block}
+use Rattle.mz_record.specs.Resized.{Resize, IsReallocated}
 use Rattle.mz_lawful.specs.Records.{LineRecord, call}
 use Rattle.mz_lawful.specs.Standing.{Standing, delivered}
 use Rattle.mz_lawful.specs.Settings.{Setting, above, least_ticket}
@@ -101,18 +99,21 @@ EndsOfSize s b n (Ok u) t = (is_wrong_size (block_of b) n ≡ false) × Ends s b
 EndsOfSize s b n (Err (size.WrongSize c held)) t = IsTrue (is_wrong_size (block_of b) n) × (c ≡ b) × (held ≡ length b.span.bytes) × Rests s (b ∷ []) t
 EndsOfSize s b n (Err (size.NotLive e)) t = ⊥
 
+-- what is asked of a block: caller 0 wants n bytes, after all that was noted and at the latest after so many entries
+abbrev pub resize_of : SessionView → BlockView → ℕ → ℕ → Resize
+resize_of s b n high = record { caller = 0; zone = b.zone; block = block_of b; bytes = n; low = above s.at.book.seen; high = high }
+
 -- The entries give the block n bytes, at a moment after all that was noted before and before the first of them.
 abbrev pub AreResizing : SessionView → BlockView → ℕ → List Entry → Option Block → SessionView → Type 0
 AreResizing s b n mine got t =
-    IsReallocated s.at.book.profile t.at.book.seen (above s.at.book.seen) (least_ticket (length t.at.book.seen) mine) 0 0 (block_of b) n mine got
+    IsReallocated s.at.book.profile t.at.book.seen (resize_of s b n (least_ticket (length t.at.book.seen) mine)) mine got
 
--- The block, which was one of zone 0, became another one, in its place or elsewhere, with its bytes as far as they were kept; or none
+-- The block became another one of its zone, in its place or elsewhere, with its bytes as far as they were kept; or none
 -- came, and it is still there.
 pub record Remakes (s : SessionView) (b : BlockView) (n : ℕ) (got : Option BlockView) (t : SessionView) : Type 0 where
   pub mine : List Entry
   pub notes : Notes s mine t
   pub resizing : AreResizing s b n mine (option_map block_of got) t
-  pub zone : zone_of_block (state_at s.at.book.profile t.at.book.seen (above s.at.book.seen)) (block_of b) ≡ Some 0
   pub keeps : Keeps t (elim got [ None ↦ b ∷ [] | Some d ↦ d ∷ [] ])
   pub bytes : (d : BlockView) → got ≡ Some d → is_shown_as (bytes_kept n (block_of b) (block_of d) (map (λ x. Some x) b.span.bytes)) d.span.bytes ≡ true
 

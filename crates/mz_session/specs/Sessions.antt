@@ -16,7 +16,7 @@ use Rattle.mz_zone.specs.declared.zone.Zone.{Zone}
 use Rattle.mz_zone.specs.Blocks.{BlockView, IsAtItsSlot, block_of}
 use Rattle.mz_zone.specs.Calling.{AtView, IsSeatedAt, HasSlot}
 use Rattle.mz_session.specs.declared.parcel.Parcel.{Parcel}
-use Rattle.mz_session.specs.Names.{NamedBlocks, views_named, block_with, block_named}
+use Rattle.mz_session.specs.Names.{NamedBlocks, views_named, block_with, holding_of, holding_named}
 use Rattle.mz_session.specs.Seats.{HasOneSeat}
 
 -- a space for one caller, of one zone
@@ -90,7 +90,7 @@ abbrev pub ArePassed : List Parcel → List Gift → Type 0
 ArePassed [] [] = Unit {0}
 ArePassed [] (x ∷ xs) = ⊥
 ArePassed (g ∷ gs) [] = ⊥
-ArePassed (g ∷ gs) (x ∷ xs) = (x ≡ record { to = 0; name = Given g.name; block = block_of g.block; bytes = x.bytes }) × IsTrue (is_shown_as x.bytes g.block.span.bytes) × ArePassed gs xs
+ArePassed (g ∷ gs) (x ∷ xs) = (x ≡ record { to = 0; holding = holding_of (Given g.name) g.block; bytes = x.bytes }) × IsTrue (is_shown_as x.bytes g.block.span.bytes) × ArePassed gs xs
 
 -- no name is held twice
 abbrev pub AreHeldOnce : List Holding → Type 0
@@ -103,6 +103,6 @@ pub record StandsFor (s : SessionView) (v : Standing) : Type 0 where
   pub zones : v.zones ≡ (0, default_zone) ∷ []
   pub gifts : ArePassed s.parcels v.gifts
   pub zone : (caller_at v 0).zone ≡ default_zone
-  pub held : (name : Name) → held_at (caller_at v 0) name ≡ block_named s.blocks name
+  pub held : (name : Name) → held_at (caller_at v 0) name ≡ holding_named s.blocks name
   pub held_once : AreHeldOnce (caller_at v 0).held
   pub known : (name : Name) (b : BlockView) → block_with s.blocks name ≡ Some b → is_shown_as (bytes_of (caller_at v 0) (block_of b)) b.span.bytes ≡ true

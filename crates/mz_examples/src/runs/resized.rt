@@ -10,12 +10,11 @@ ghost use Rattle.mz_examples.specs.Rows.{two_zones, second_serves, two_nano_page
 ghost use Rattle.mz_examples.specs.Edges.{two_callers};
 ghost use Rattle.mz_record.specs.Moments.{state_at};
 ghost use Rattle.mz_record.specs.Resized.{IsReallocated, IsHemmedIn};
-ghost use Rattle.mz_record.specs.Zones.{zone_of_block};
 ghost use Rattle.mz_lawful.specs.Records.{entries_of};
 ghost use Rattle.mz_lawful.specs.Settings.{low, high};
 ghost use Rattle.mz_lawful.specs.LawfulRun.{placed_records};
 ghost use Rattle.mz_examples.specs.Spoiled.{AtRecord};
-ghost use Rattle.mz_examples.specs.RunsResized.{ResizesA, makes_a, grows, row_realloc, moves_away, shrinks, moves_behind, moves_to_least, no_small_region, neighbour_goes, moves_then, two_zones_for_two, with_opening, run_with_opening, run_with_none, own_goes, makes_c, moves_c, makes_d, no_seven_pages, moves_in_nano, grows_in_nano, moves_in_second, asks_other_zone, live_in};
+ghost use Rattle.mz_examples.specs.RunsResized.{asks, ResizesA, makes_a, grows, row_realloc, moves_away, shrinks, moves_behind, moves_to_least, no_small_region, neighbour_goes, moves_then, two_zones_for_two, with_opening, run_with_opening, run_with_none, own_goes, makes_c, moves_c, makes_d, no_seven_pages, moves_in_nano, grows_in_nano, moves_in_second, asks_other_zone, live_in};
 
 use mz_events::laws::lawful_without_breach;
 
@@ -41,7 +40,7 @@ pub fn in_place()
 /// A growth moves where a neighbour stood in the way: row `realloc`. Where the bytes behind the
 /// block are free at each moment before the command, it doesn't.
 pub fn hemmed_in()
-    ensures moved { IsReallocated (profile_of 64) row_realloc 6 6 0 0 (block_at 0 112) 200 moves_away (Some (block_at 128 208)) }
+    ensures moved { IsReallocated (profile_of 64) row_realloc (asks 6 6 0 (block_at 0 112) 200) moves_away (Some (block_at 128 208)) }
     ensures lawful { IsLawfulHistory (profile_of 64) (makes_a ++ moves_behind) }
     ensures free { ¬ ResizesA (makes_a ++ moves_behind) 100 moves_behind (Some (block_at 48 112)) }
 {
@@ -74,8 +73,7 @@ pub fn at_region_end()
 pub fn without_need()
     ensures shrink { ¬ ResizesA (makes_a ++ moves_to_least) 10 moves_to_least (Some (block_at 48 16)) }
     ensures lawful_large { IsLawfulHistory (profile_of 64) (makes_c ++ moves_c) }
-    ensures large { ¬ IsReallocated (profile_of 64) (makes_c ++ moves_c) 3 3 0 0
-        (block_at 0 81920) 50000 moves_c (Some (block_at 81920 65536)) }
+    ensures large { ¬ IsReallocated (profile_of 64) (makes_c ++ moves_c) (asks 3 3 0 (block_at 0 81920) 50000) moves_c (Some (block_at 81920 65536)) }
 {
     lawful_without_breach();
 }
@@ -93,9 +91,9 @@ pub fn to_other_range()
 /// that was freed in the round before didn't, nor did one that the caller itself freed before.
 pub fn hemmed_in_by_other()
     ensures lawful { IsLawfulHistory two_callers neighbour_goes }
-    ensures same_round { IsReallocated two_callers neighbour_goes 4 6 0 0 (block_at 0 48) 100 moves_then (Some (block_at 48 112)) }
-    ensures round_before { ¬ IsReallocated two_callers neighbour_goes 6 6 0 0 (block_at 0 48) 100 moves_then (Some (block_at 48 112)) }
-    ensures own { ¬ IsReallocated two_callers own_goes 6 6 0 0 (block_at 0 48) 100 moves_then (Some (block_at 48 112)) }
+    ensures same_round { IsReallocated two_callers neighbour_goes (asks 4 6 0 (block_at 0 48) 100) moves_then (Some (block_at 48 112)) }
+    ensures round_before { ¬ IsReallocated two_callers neighbour_goes (asks 6 6 0 (block_at 0 48) 100) moves_then (Some (block_at 48 112)) }
+    ensures own { ¬ IsReallocated two_callers own_goes (asks 6 6 0 (block_at 0 48) 100) moves_then (Some (block_at 48 112)) }
 {
     lawful_without_breach();
 }
@@ -113,13 +111,12 @@ pub fn to_nothing()
 /// A large block stays as it is where it wastes less than it needs. Else it moves, and stays where
 /// it is where that gives none.
 pub fn large()
-    ensures stays { IsReallocated (profile_of 8) makes_c 3 3 0 0 (block_at 0 81920) 50000 [] (Some (block_at 0 81920)) }
+    ensures stays { IsReallocated (profile_of 8) makes_c (asks 3 3 0 (block_at 0 81920) 50000) [] (Some (block_at 0 81920)) }
     ensures lawful { IsLawfulHistory (profile_of 8) (makes_c ++ no_seven_pages) }
-    ensures not_moved { IsReallocated (profile_of 8) (makes_c ++ no_seven_pages) 3 3 0 0
-        (block_at 0 81920) 100000 no_seven_pages None }
-    ensures just_stays { IsReallocated (profile_of 8) makes_d 3 3 0 0 (block_at 0 98304) 65536 [] (Some (block_at 0 98304)) }
-    ensures wastes_too_much { ¬ IsReallocated (profile_of 8) makes_d 3 3 0 0 (block_at 0 98304) 49152 [] (Some (block_at 0 98304)) }
-    ensures larger { ¬ IsReallocated (profile_of 8) makes_c 3 3 0 0 (block_at 0 81920) 100000 [] (Some (block_at 0 81920)) }
+    ensures not_moved { IsReallocated (profile_of 8) (makes_c ++ no_seven_pages) (asks 3 3 0 (block_at 0 81920) 100000) no_seven_pages None }
+    ensures just_stays { IsReallocated (profile_of 8) makes_d (asks 3 3 0 (block_at 0 98304) 65536) [] (Some (block_at 0 98304)) }
+    ensures wastes_too_much { ¬ IsReallocated (profile_of 8) makes_d (asks 3 3 0 (block_at 0 98304) 49152) [] (Some (block_at 0 98304)) }
+    ensures larger { ¬ IsReallocated (profile_of 8) makes_c (asks 3 3 0 (block_at 0 81920) 100000) [] (Some (block_at 0 81920)) }
 {
     lawful_without_breach();
 }
@@ -127,12 +124,10 @@ pub fn large()
 /// A block of nano's stays where its good size is the same, and else moves; it never changes its
 /// size in place.
 pub fn in_nano()
-    ensures stays { IsReallocated two_nano_pages first_slot 1 1 0 0 (block_at LAST_PAGE 48) 40 [] (Some (block_at LAST_PAGE 48)) }
+    ensures stays { IsReallocated two_nano_pages first_slot (asks 1 1 0 (block_at LAST_PAGE 48) 40) [] (Some (block_at LAST_PAGE 48)) }
     ensures lawful { IsLawfulHistory two_nano_pages (first_slot ++ moves_in_nano) }
-    ensures moved { IsReallocated two_nano_pages (first_slot ++ moves_in_nano) 1 1 0 0
-        (block_at LAST_PAGE 48) 100 moves_in_nano (Some (block_at 1015808 112)) }
-    ensures grown { ¬ IsReallocated two_nano_pages (first_slot ++ grows_in_nano) 1 1 0 0
-        (block_at LAST_PAGE 48) 60 grows_in_nano (Some (block_at LAST_PAGE 64)) }
+    ensures moved { IsReallocated two_nano_pages (first_slot ++ moves_in_nano) (asks 1 1 0 (block_at LAST_PAGE 48) 100) moves_in_nano (Some (block_at 1015808 112)) }
+    ensures grown { ¬ IsReallocated two_nano_pages (first_slot ++ grows_in_nano) (asks 1 1 0 (block_at LAST_PAGE 48) 60) grows_in_nano (Some (block_at LAST_PAGE 64)) }
 {
     lawful_without_breach();
 }
@@ -140,12 +135,9 @@ pub fn in_nano()
 /// A block moves within its own zone. That another zone has no room is no answer.
 pub fn in_own_zone()
     ensures lawful { IsLawfulHistory two_zones (second_serves ++ moves_in_second) }
-    ensures moved { IsReallocated two_zones (second_serves ++ moves_in_second) 5 5 0 1
-        (block_at 0 16) 0 moves_in_second (Some (block_at 16 16)) }
-    ensures own_zone { zone_of_block (state_at two_zones (second_serves ++ moves_in_second) 5) (block_at 0 16) ≡ Some 1 }
+    ensures moved { IsReallocated two_zones (second_serves ++ moves_in_second) (asks 5 5 1 (block_at 0 16) 0) moves_in_second (Some (block_at 16 16)) }
     ensures lawful_elsewhere { IsLawfulHistory two_zones (second_serves ++ asks_other_zone) }
-    ensures elsewhere { ¬ IsReallocated two_zones (second_serves ++ asks_other_zone) 5 5 0 1
-        (block_at 0 16) 0 asks_other_zone None }
+    ensures elsewhere { ¬ IsReallocated two_zones (second_serves ++ asks_other_zone) (asks 5 5 1 (block_at 0 16) 0) asks_other_zone None }
 {
     lawful_without_breach();
 }

@@ -28,7 +28,7 @@ returns-clause-lawful c = record {
     (
       record { answer = refl; entries = refl; bytes = refl; in_turn = refl },
       (
-        record { answer = refl; entries = record { z = 0; zone = refl; entries = inr (size.moved (block_at 48 16) (new_at 4 48 16) (end_at 5 0 48) (size.to_nothing refl) refl (serves refl (way.by_magazine _ 48 refl refl refl)) (magazine, refl, refl) refl) }; bytes = refl; in_turn = refl },
+        record { answer = refl; entries = inr (size.moved (block_at 48 16) (new_at 4 48 16) (end_at 5 0 48) (size.to_nothing refl) refl (serves refl (way.by_magazine _ 48 refl refl refl)) (magazine, refl, refl) refl); bytes = refl; in_turn = refl },
         (
           record { answer = record { shown = 9 ∷ 0 ∷ []; many = refl; bytes = refl }; entries = refl; bytes = refl; in_turn = refl },
           (

@@ -27,7 +27,7 @@ returns-clause-lawful c = record {
     (
       record { answer = refl; entries = refl; bytes = refl; in_turn = refl },
       (
-        record { answer = refl; entries = record { z = 0; zone = refl; entries = inl (size.in_place magazine (record { asked = omega arith; ranges = refl; not_large = λ same. (cc); in_region = refl }) (λ same. (cc)) refl refl) }; bytes = refl; in_turn = refl },
+        record { answer = refl; entries = inl (size.in_place magazine (record { asked = omega arith; ranges = refl; not_large = λ same. (cc); in_region = refl }) (λ same. (cc)) refl refl); bytes = refl; in_turn = refl },
         (
           record { answer = record { shown = 5 ∷ 99 ∷ []; many = refl; bytes = refl }; entries = refl; bytes = refl; in_turn = refl },
           tt,

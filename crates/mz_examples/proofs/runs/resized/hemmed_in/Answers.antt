@@ -5,7 +5,7 @@ use Rattle.mz_record.specs.Served as way
 use Rattle.mz_record.specs.Resized as size
 use Rattle.mz_events.specs.declared.event.Event.TheVariants as event
 use Rattle.mz_examples.specs.Examples.{profile_of, entry_of, magazine}
-use Rattle.mz_examples.specs.RunsResized.{makes_a, moves_behind}
+use Rattle.mz_examples.specs.RunsResized.{asks, makes_a, moves_behind}
 use Rattle.mz_examples.proofs.ResizedTests.{ends_then_moves, stays_with_room}
 use Rattle.mz_examples.proofs.RunTests.{serves}
 use Rattle.mz_events.specs.State.{look_up, write}
@@ -26,4 +26,4 @@ returns-clause-lawful c = (c.lawful_without_breach.ensures (profile_of 64) (make
 
 pub returns-clause-free : goal.returns-clause-free
 unfolding look_up write insert_by best_fit write_all after keeps after_all by_ticket first_breach
-returns-clause-free c = λ done. stays_with_room (profile_of 64) (makes_a ++ moves_behind) 4 (block_at 0 48) 100 (record { asked = omega arith; ranges = refl; not_large = λ same. (cc); in_region = refl }) refl (ends_then_moves (profile_of 64) (makes_a ++ moves_behind) 4 4 0 0 (block_at 0 48) 100 (moves_behind) (Some (block_at 48 112)) done refl)
+returns-clause-free c = λ done. stays_with_room (profile_of 64) (makes_a ++ moves_behind) 4 (block_at 0 48) 100 (record { asked = omega arith; ranges = refl; not_large = λ same. (cc); in_region = refl }) refl (ends_then_moves (profile_of 64) (makes_a ++ moves_behind) (asks 4 4 0 (block_at 0 48) 100) (moves_behind) (Some (block_at 48 112)) done refl)

@@ -6,7 +6,7 @@ use Rattle.mz_record.specs.Resized as size
 use Rattle.mz_events.specs.declared.event.Event.TheVariants as event
 use Rattle.mz_examples.specs.Examples.{entry_of, magazine}
 use Rattle.mz_examples.specs.Edges.{two_callers}
-use Rattle.mz_examples.specs.RunsResized.{neighbour_goes, moves_then, own_goes}
+use Rattle.mz_examples.specs.RunsResized.{asks, neighbour_goes, moves_then, own_goes}
 use Rattle.mz_examples.proofs.ResizedTests.{ends_then_moves, stays_with_room}
 use Rattle.mz_examples.proofs.RunTests.{serves}
 use Rattle.mz_events.specs.State.{look_up, write}
@@ -27,8 +27,8 @@ returns-clause-same_round c = inr (size.moved (block_at 48 112) (entry_of 6 (eve
 
 pub returns-clause-round_before : goal.returns-clause-round_before
 unfolding look_up write insert_by best_fit write_all after keeps after_all by_ticket first_breach
-returns-clause-round_before c = λ done. stays_with_room two_callers neighbour_goes 6 (block_at 0 48) 100 (record { asked = omega arith; ranges = refl; not_large = λ same. (cc); in_region = refl }) refl (ends_then_moves (two_callers) (neighbour_goes) 6 6 0 0 (block_at 0 48) 100 (moves_then) (Some (block_at 48 112)) done refl)
+returns-clause-round_before c = λ done. stays_with_room two_callers neighbour_goes 6 (block_at 0 48) 100 (record { asked = omega arith; ranges = refl; not_large = λ same. (cc); in_region = refl }) refl (ends_then_moves (two_callers) (neighbour_goes) (asks 6 6 0 (block_at 0 48) 100) (moves_then) (Some (block_at 48 112)) done refl)
 
 pub returns-clause-own : goal.returns-clause-own
 unfolding look_up write insert_by best_fit write_all after keeps after_all by_ticket first_breach
-returns-clause-own c = λ done. stays_with_room two_callers own_goes 6 (block_at 0 48) 100 (record { asked = omega arith; ranges = refl; not_large = λ same. (cc); in_region = refl }) refl (ends_then_moves (two_callers) (own_goes) 6 6 0 0 (block_at 0 48) 100 (moves_then) (Some (block_at 48 112)) done refl)
+returns-clause-own c = λ done. stays_with_room two_callers own_goes 6 (block_at 0 48) 100 (record { asked = omega arith; ranges = refl; not_large = λ same. (cc); in_region = refl }) refl (ends_then_moves (two_callers) (own_goes) (asks 6 6 0 (block_at 0 48) 100) (moves_then) (Some (block_at 48 112)) done refl)

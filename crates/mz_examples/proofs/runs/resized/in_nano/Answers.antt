@@ -7,7 +7,7 @@ use Rattle.mz_events.specs.declared.event.Event.TheVariants as event
 use Rattle.mz_events.specs.declared.place.Place.TheVariants as place
 use Rattle.mz_examples.specs.Examples.{entry_of}
 use Rattle.mz_examples.specs.Rows.{two_nano_pages, LAST_PAGE, first_slot}
-use Rattle.mz_examples.specs.RunsResized.{moves_in_nano, grows_in_nano}
+use Rattle.mz_examples.specs.RunsResized.{asks, moves_in_nano, grows_in_nano}
 use Rattle.mz_examples.proofs.ResizedTests.{no_end_then_stays}
 use Rattle.mz_examples.proofs.RunTests.{serves}
 use Rattle.mz_events.specs.State.{look_up, write}
@@ -32,4 +32,4 @@ returns-clause-moved c = inr (size.moved (block_at 1015808 112) (entry_of 1 (eve
 
 pub returns-clause-grown : goal.returns-clause-grown
 unfolding look_up write insert_by best_fit write_all after keeps after_all by_ticket first_breach
-returns-clause-grown c = λ done. false≢true (no_end_then_stays (two_nano_pages) (first_slot ++ grows_in_nano) 1 1 0 0 (block_at LAST_PAGE 48) 60 (grows_in_nano) (block_at LAST_PAGE 64) done refl)
+returns-clause-grown c = λ done. false≢true (no_end_then_stays (two_nano_pages) (first_slot ++ grows_in_nano) (asks 1 1 0 (block_at LAST_PAGE 48) 60) (grows_in_nano) (block_at LAST_PAGE 64) done refl)

@@ -3,7 +3,7 @@ use Rattle.std.proofs.lemmas.Bool.{false≢true}
 use Rattle.mz_base.specs.Space.{block_at}
 use Rattle.mz_record.specs.Resized as size
 use Rattle.mz_examples.specs.Examples.{profile_of, magazine}
-use Rattle.mz_examples.specs.RunsResized.{grows, row_realloc}
+use Rattle.mz_examples.specs.RunsResized.{asks, grows, row_realloc}
 use Rattle.mz_examples.proofs.ResizedTests.{no_end_then_stays}
 use Rattle.mz_events.specs.State.{look_up, write}
 use Rattle.mz_base.specs.Lists.{insert_by}
@@ -27,8 +27,8 @@ returns-clause-shrink c = inl (size.in_place magazine (record { asked = omega ar
 
 pub returns-clause-old_size : goal.returns-clause-old_size
 unfolding look_up write insert_by best_fit write_all after keeps after_all by_ticket first_breach
-returns-clause-old_size c = λ done. false≢true (no_end_then_stays (profile_of 64) (row_realloc) 4 4 0 0 (block_at 0 48) 100 (grows) (block_at 0 48) done refl)
+returns-clause-old_size c = λ done. false≢true (no_end_then_stays (profile_of 64) (row_realloc) (asks 4 4 0 (block_at 0 48) 100) (grows) (block_at 0 48) done refl)
 
 pub returns-clause-other_size : goal.returns-clause-other_size
 unfolding look_up write insert_by best_fit write_all after keeps after_all by_ticket first_breach
-returns-clause-other_size c = λ done. false≢true (no_end_then_stays (profile_of 64) (row_realloc) 4 4 0 0 (block_at 0 48) 120 (grows) (block_at 0 112) done refl)
+returns-clause-other_size c = λ done. false≢true (no_end_then_stays (profile_of 64) (row_realloc) (asks 4 4 0 (block_at 0 48) 120) (grows) (block_at 0 112) done refl)

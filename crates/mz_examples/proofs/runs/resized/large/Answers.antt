@@ -5,7 +5,7 @@ use Rattle.mz_record.specs.Served as way
 use Rattle.mz_record.specs.Resized as size
 use Rattle.mz_events.specs.declared.event.Event.TheVariants as event
 use Rattle.mz_examples.specs.Examples.{profile_of, entry_of, large}
-use Rattle.mz_examples.specs.RunsResized.{makes_c, makes_d, no_seven_pages}
+use Rattle.mz_examples.specs.RunsResized.{asks, makes_c, makes_d, no_seven_pages}
 use Rattle.mz_examples.proofs.UndisturbedTest.{undisturbed_by_test}
 use Rattle.mz_examples.proofs.ResizedTests.{no_end_then_stays}
 use Rattle.mz_events.specs.State.{look_up, write}
@@ -34,8 +34,8 @@ returns-clause-just_stays c = inl (size.still_large refl refl refl refl refl)
 
 pub returns-clause-wastes_too_much : goal.returns-clause-wastes_too_much
 unfolding look_up write insert_by best_fit write_all after keeps after_all by_ticket first_breach
-returns-clause-wastes_too_much c = λ done. false≢true (no_end_then_stays (profile_of 8) (makes_d) 3 3 0 0 (block_at 0 98304) 49152 ([]) (block_at 0 98304) done refl)
+returns-clause-wastes_too_much c = λ done. false≢true (no_end_then_stays (profile_of 8) (makes_d) (asks 3 3 0 (block_at 0 98304) 49152) ([]) (block_at 0 98304) done refl)
 
 pub returns-clause-larger : goal.returns-clause-larger
 unfolding look_up write insert_by best_fit write_all after keeps after_all by_ticket first_breach
-returns-clause-larger c = λ done. false≢true (no_end_then_stays (profile_of 8) (makes_c) 3 3 0 0 (block_at 0 81920) 100000 ([]) (block_at 0 81920) done refl)
+returns-clause-larger c = λ done. false≢true (no_end_then_stays (profile_of 8) (makes_c) (asks 3 3 0 (block_at 0 81920) 100000) ([]) (block_at 0 81920) done refl)

@@ -5,7 +5,7 @@ use Rattle.mz_record.specs.Served as way
 use Rattle.mz_record.specs.Resized as size
 use Rattle.mz_events.specs.declared.event.Event.TheVariants as event
 use Rattle.mz_examples.specs.Examples.{profile_of, entry_of, magazine}
-use Rattle.mz_examples.specs.RunsResized.{makes_a, shrinks, moves_to_least}
+use Rattle.mz_examples.specs.RunsResized.{asks, makes_a, shrinks, moves_to_least}
 use Rattle.mz_examples.proofs.ResizedTests.{no_end_then_stays}
 use Rattle.mz_examples.proofs.RunTests.{serves}
 use Rattle.mz_events.specs.State.{look_up, write}
@@ -26,8 +26,8 @@ returns-clause-moved c = inr (size.moved (block_at 48 16) (entry_of 4 (event.New
 
 pub returns-clause-stays : goal.returns-clause-stays
 unfolding look_up write insert_by best_fit write_all after keeps after_all by_ticket first_breach
-returns-clause-stays c = λ done. false≢true (no_end_then_stays (profile_of 64) (makes_a) 4 4 0 0 (block_at 0 48) 0 ([]) (block_at 0 48) done refl)
+returns-clause-stays c = λ done. false≢true (no_end_then_stays (profile_of 64) (makes_a) (asks 4 4 0 (block_at 0 48) 0) ([]) (block_at 0 48) done refl)
 
 pub returns-clause-shrinks : goal.returns-clause-shrinks
 unfolding look_up write insert_by best_fit write_all after keeps after_all by_ticket first_breach
-returns-clause-shrinks c = λ done. false≢true (no_end_then_stays (profile_of 64) (makes_a ++ shrinks) 4 4 0 0 (block_at 0 48) 0 (shrinks) (block_at 0 16) done refl)
+returns-clause-shrinks c = λ done. false≢true (no_end_then_stays (profile_of 64) (makes_a ++ shrinks) (asks 4 4 0 (block_at 0 48) 0) (shrinks) (block_at 0 16) done refl)

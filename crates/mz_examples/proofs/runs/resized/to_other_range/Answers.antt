@@ -5,7 +5,7 @@ use Rattle.mz_record.specs.Served as way
 use Rattle.mz_record.specs.Resized as size
 use Rattle.mz_events.specs.declared.event.Event.TheVariants as event
 use Rattle.mz_examples.specs.Examples.{profile_of, entry_of}
-use Rattle.mz_examples.specs.RunsResized.{makes_a, no_small_region}
+use Rattle.mz_examples.specs.RunsResized.{asks, makes_a, no_small_region}
 use Rattle.mz_examples.proofs.UndisturbedTest.{undisturbed_by_test}
 use Rattle.mz_examples.proofs.ResizedTests.{no_end_then_stays}
 use Rattle.mz_events.specs.State.{look_up, write}
@@ -26,4 +26,4 @@ returns-clause-not_moved c = inr (size.not_moved (size.between_ranges (λ same. 
 
 pub returns-clause-other_answer : goal.returns-clause-other_answer
 unfolding look_up write insert_by best_fit write_all after keeps after_all by_ticket first_breach
-returns-clause-other_answer c = λ done. false≢true (no_end_then_stays (profile_of 64) (makes_a ++ no_small_region) 4 4 0 0 (block_at 0 48) 2000 (no_small_region) (block_at 0 48) done refl)
+returns-clause-other_answer c = λ done. false≢true (no_end_then_stays (profile_of 64) (makes_a ++ no_small_region) (asks 4 4 0 (block_at 0 48) 2000) (no_small_region) (block_at 0 48) done refl)

@@ -28,11 +28,11 @@ returns-clause-lawful c = record {
   fitting = (
     record { answer = refl; entries = serves refl (way.by_fresh_region _ 0 0 (take 2 (first_block 48)) [] (drop 2 (first_block 48)) refl refl refl tt refl refl); bytes = refl; in_turn = refl },
     (
-      record { answer = refl; entries = record { z = 0; zone = refl; entries = inl (size.in_place magazine (record { asked = omega arith; ranges = refl; not_large = λ same. (cc); in_region = refl }) (λ same. (cc)) refl refl) }; bytes = refl; in_turn = refl },
+      record { answer = refl; entries = inl (size.in_place magazine (record { asked = omega arith; ranges = refl; not_large = λ same. (cc); in_region = refl }) (λ same. (cc)) refl refl); bytes = refl; in_turn = refl },
       (
         record { answer = refl; entries = serves refl (way.by_magazine _ 112 refl refl refl); bytes = refl; in_turn = refl },
         (
-          record { answer = refl; entries = record { z = 0; zone = refl; entries = inr (size.moved (block_at 128 208) (new_at 6 128 208) (end_at 7 0 112) (size.hemmed_in (record { asked = omega arith; ranges = refl; not_large = λ same. (cc); in_region = refl }) (omega arith) (record { t = 6; not_before = leb-true _ _ refl; not_after = leb-true _ _ refl; within = leb-true _ _ refl; hemmed = (magazine, refl, refl, refl) })) refl (serves refl (way.by_magazine _ 128 refl refl refl)) (magazine, refl, refl) refl) }; bytes = refl; in_turn = refl },
+          record { answer = refl; entries = inr (size.moved (block_at 128 208) (new_at 6 128 208) (end_at 7 0 112) (size.hemmed_in (record { asked = omega arith; ranges = refl; not_large = λ same. (cc); in_region = refl }) (omega arith) (record { t = 6; not_before = leb-true _ _ refl; not_after = leb-true _ _ refl; within = leb-true _ _ refl; hemmed = (magazine, refl, refl, refl) })) refl (serves refl (way.by_magazine _ 128 refl refl refl)) (magazine, refl, refl) refl); bytes = refl; in_turn = refl },
           (
             record { answer = refl; entries = serves refl (way.by_magazine _ 0 refl refl refl); bytes = refl; in_turn = refl },
             tt,

@@ -27,7 +27,7 @@ returns-clause-renamed c = record {
   fitting = (
     record { answer = refl; entries = serves refl (way.by_fresh_region _ 0 0 (take 2 (first_block 48)) [] (drop 2 (first_block 48)) refl refl refl tt refl refl); bytes = refl; in_turn = refl },
     (
-      record { answer = refl; entries = record { z = 0; zone = refl; entries = inl (size.same_size (omega arith) refl refl refl) }; bytes = refl; in_turn = refl },
+      record { answer = refl; entries = inl (size.same_size (omega arith) refl refl refl); bytes = refl; in_turn = refl },
       (
         record { answer = refl; entries = refl; bytes = refl; in_turn = refl },
         (
@@ -51,7 +51,7 @@ returns-clause-not_moved c = record {
   fitting = (
     record { answer = refl; entries = serves refl (way.by_fresh_region _ 0 0 (take 2 (first_block 48)) [] (drop 2 (first_block 48)) refl refl refl tt refl refl); bytes = refl; in_turn = refl },
     (
-      record { answer = refl; entries = record { z = 0; zone = refl; entries = inr (size.not_moved (size.between_ranges (λ same. (cc)) (λ same. (cc))) (record { served = way.null_in_range _ (take 2 no_small_region) [] (entry_of 6 (event.Dry 0 512 512)) refl refl refl tt (record { event = refl; no_duty = refl }) refl; undisturbed = undisturbed_by_test (profile_of 64) (entries_of (not_moved no_small_region answers.Null)) 0 no_small_region refl }) refl) }; bytes = refl; in_turn = refl },
+      record { answer = refl; entries = inr (size.not_moved (size.between_ranges (λ same. (cc)) (λ same. (cc))) (record { served = way.null_in_range _ (take 2 no_small_region) [] (entry_of 6 (event.Dry 0 512 512)) refl refl refl tt (record { event = refl; no_duty = refl }) refl; undisturbed = undisturbed_by_test (profile_of 64) (entries_of (not_moved no_small_region answers.Null)) 0 no_small_region refl }) refl); bytes = refl; in_turn = refl },
       (
         record { answer = refl; entries = (magazine, refl, refl); bytes = refl; in_turn = refl },
         tt,

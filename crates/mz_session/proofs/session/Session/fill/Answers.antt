@@ -22,7 +22,7 @@ returns-then-is_none c =
     let name = c.args.name in
     let inside : block_with c.self.inside.blocks c.get-name.result ≡ None = sym c.get.ensures ∙ option-none (λ b. b.now) c.get.result c.if-is_none.ensures in
     let none : block_with s.blocks name ≡ None = ap (λ x. block_with x.blocks name) (sym c.self.view_is) ∙ ap (block_with c.self.inside.blocks) (sym c.get-name.ensures) ∙ inside in
-    serves-refused s (Fill name c.args.byte) answers.NotHeld c.requires (λ v stands. with-none s (setting_of s s v) stands name (λ b. filling b c.args.byte) none)
+    serves-refused s (Fill name c.args.byte) answers.NotHeld c.requires (λ v stands. with-none s (setting_of s s v) stands name (λ h. filling h.block c.args.byte) none)
 
 pub returns : goal.returns
 returns c =
@@ -41,7 +41,7 @@ returns c =
     (subst (λ x. AreWith x.blocks c.get-name.result (option_map (λ y. with_block_bytes y (replicate (length y.span.bytes) byte)) (block_with x.blocks c.get-name.result)) bs) c.self.view_is c.fill.ensures)) in
     let served = serves-written s bs name b ws c.requires held (length-replicate (length b.span.bytes) byte) with_it
     (Fill name byte) (λ v. filling (block_of b) byte) (λ v. filled (length b.span.bytes) byte)
-    (λ v stands. with-some s (setting_of s (with_blocks s bs) v) stands name (λ x. filling x byte) b held)
+    (λ v stands. with-some s (setting_of s (with_blocks s bs) v) stands name (λ h. filling h.block byte) b held)
     (λ v. (refl, (refl, (refl, λ x. refl))))
     (λ v stands. shown-filled (length b.span.bytes) byte) in
     subst (λ x. Serves s (Fill name byte) answers.Done (with_blocks x bs)) (sym c.self.view_is) served

@@ -14,7 +14,7 @@ returns-in_default g c =
     let none = c.in_default.ensures in
     subst (λ n. Serves s (Free n) answers.NotHeld c.take.new.self) c.get.ensures
     (subst (λ x. Serves s (Free name) answers.NotHeld x) (sym none.1)
-    (serves-refused s (Free name) answers.NotHeld c.requires (λ v stands. with-none s (setting_of s s v) stands name (λ b. dropping name b) none.0)))
+    (serves-refused s (Free name) answers.NotHeld c.requires (λ v stands. with-none s (setting_of s s v) stands name dropping none.0)))
 
 pub end-requires : goal.end-requires
 end-requires g c = c.in-Some.ensures.3
@@ -28,4 +28,4 @@ returns g c =
     let takes = c.in-Some.ensures in
     subst (λ n. Serves s (Free n) answers.Done t) c.get.ensures
     (serves-dropped s u t (Free name) name c.in-Some.block c.requires takes c.in_ok-end.ensures
-    (λ v stands. with-some s (setting_of s t v) stands name (λ b. dropping name b) c.in-Some.block takes.0))
+    (λ v stands. with-some s (setting_of s t v) stands name dropping c.in-Some.block takes.0))

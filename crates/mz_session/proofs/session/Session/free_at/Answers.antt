@@ -3,7 +3,8 @@ use Rattle.std.proofs.lemmas.Option.{none-some}
 use Rattle.mz_lines.specs.declared.answer.Answer.TheVariants as answers
 use Rattle.mz_lines.specs.declared.command.Command.TheVariants.{FreeAt}
 use Rattle.mz_lawful.specs.Tasks.{dropping}
-use Rattle.mz_zone.specs.Blocks.{BlockView, block_of}
+use Rattle.mz_zone.specs.Blocks.{BlockView}
+use Rattle.mz_session.specs.Names.{holding_of}
 use Rattle.mz_session.specs.Sessions.{SessionView}
 use Rattle.mz_session.specs.Serving.{Serves, setting_of}
 use Rattle.mz_session.proofs.CountLemmas.{some-is}
@@ -40,4 +41,4 @@ returns g c =
     (serves-dropped s u t (FreeAt name c.args.off) there b c.requires takes c.in_ok-end.ensures
     (λ v stands.
     at-there s (setting_of s t v) stands name there c.args.off behind.0 behind.1 behind.2
-    ∙ ap (λ (x : BlockView). dropping there (block_of x)) (some-is behind.2.block b (sym behind.2.named ∙ takes.0))))
+    ∙ ap (λ (x : BlockView). dropping (holding_of there x)) (some-is behind.2.block b (sym behind.2.named ∙ takes.0))))

@@ -17,7 +17,7 @@ returns-in_default g c =
     subst (λ n. Serves s (SizedFree n c.args.n) answers.NotHeld c.take.new.self) c.get-name.ensures
     (subst (λ x. Serves s (SizedFree name c.args.n) answers.NotHeld x) (sym none.1)
     (serves-refused s (SizedFree name c.args.n) answers.NotHeld c.requires
-    (λ v stands. with-none s (setting_of s s v) stands name (λ b. refuse_if (is_wrong_size b c.args.n) (answers.WrongSize b.size) (dropping name b)) none.0)))
+    (λ v stands. with-none s (setting_of s s v) stands name (λ h. refuse_if (is_wrong_size h.block c.args.n) (answers.WrongSize h.block.size) (dropping h)) none.0)))
 
 pub end_of_size-requires : goal.end_of_size-requires
 end_of_size-requires g c = c.in-Some.ensures.3

@@ -24,7 +24,7 @@ returns-in_default c =
     let name = c.args.name in
     let none : block_with s.blocks name ≡ None = ap (λ x. block_with x.blocks name) (sym c.self.view_is) ∙ (ap (block_with c.self.inside.blocks) (sym c.get-name.ensures) ∙ sym c.in_default.ensures) in
     serves-refused s (Link name c.args.off c.args.target) answers.NotHeld c.requires
-    (λ v stands. with-none s (setting_of s s v) stands name (λ b. with_held (caller_at v 0) c.args.target (λ d. refuse_if (nat_lt b.size (c.args.off + 8)) answers.OutOfRange (linking b c.args.off d.first))) none)
+    (λ v stands. with-none s (setting_of s s v) stands name (λ h. with_held (caller_at v 0) c.args.target (λ t. refuse_if (nat_lt h.block.size (c.args.off + 8)) answers.OutOfRange (linking h.block c.args.off t.block.first))) none)
 
 pub returns-in_default-get : goal.returns-in_default-get
 returns-in_default-get c =

@@ -18,7 +18,7 @@ returns-in_default c =
     let name = c.args.name in
     let none : block_with s.blocks name ≡ None = ap (λ x. block_with x.blocks name) (sym c.self.view_is) ∙ (ap (block_with c.self.inside.blocks) (sym c.get.ensures) ∙ sym c.in_default.ensures) in
     serves-refused s (Show name c.args.off c.args.count) answers.NotHeld c.requires
-    (λ v stands. with-none s (setting_of s s v) stands name (λ b. refuse_if (nat_lt b.size (c.args.off + c.args.count)) answers.OutOfRange (showing b c.args.off c.args.count)) none)
+    (λ v stands. with-none s (setting_of s s v) stands name (λ h. refuse_if (nat_lt h.block.size (c.args.off + c.args.count)) answers.OutOfRange (showing h.block c.args.off c.args.count)) none)
 
 pub returns-in-Some-bytes_at : goal.returns-in-Some-bytes_at
 returns-in-Some-bytes_at c =

@@ -11,3 +11,4 @@ pub mod RunsRounds
 pub mod RunsRows
 pub mod RunsZones
 pub mod RunsBytes
+pub mod RunsUnfit

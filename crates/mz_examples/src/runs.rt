@@ -5,6 +5,7 @@
 //! - `rows`, `zones`, `rounds`, `bytes`: whole runs, lawful ones and such as have a record that doesn't
 //!   fit, by the part of it that is wrong.
 //! - `spoiled`: a run with such a record isn't lawful.
+//! - `unfit`: the first such record, and the first wrong line behind a run.
 
 pub mod bytes;
 pub mod dropped;
@@ -13,4 +14,5 @@ pub mod rounds;
 pub mod rows;
 pub mod served;
 pub mod spoiled;
+pub mod unfit;
 pub mod zones;

@@ -1,7 +1,7 @@
 -- When a run of a trace is lawful. This project's own.
 use Rattle.std.specs.Prelude.{ℕ, ◌+◌, ◌≡◌, List, [], ◌∷◌, ◌++◌, fold}
 use Rattle.std.specs.List.{AllByRecursion}
-use Rattle.mz_events.specs.History.{IsLawfulHistory}
+use Rattle.mz_events.specs.History.{IsLawfulHistory, by_ticket}
 use Rattle.mz_trace.specs.declared.run.CallRecord.{CallRecord}
 use Rattle.mz_trace.specs.declared.run.RunRound.{RunRound}
 use Rattle.mz_trace.specs.declared.run.Run.{Run}
@@ -61,9 +61,9 @@ placed_rounds s (r ∷ rs) = placed_round s r ++ placed_rounds (after_round s r)
 abbrev pub after_rounds : Setting → List RunRound → Setting
 after_rounds s rs = fold after_round s rs
 
--- where the first line of a run stands
+-- where the first line of a run stands: the history is the entries in order of their tickets
 abbrev pub first_setting : Run → Setting
-first_setting r = record { profile = r.profile; history = entries_of r; before = []; standing = first_standing }
+first_setting r = record { profile = r.profile; history = by_ticket (entries_of r); before = []; standing = first_standing }
 
 -- all records of a run, each in its place, in the order of the text
 abbrev pub placed_records : Run → List Placed

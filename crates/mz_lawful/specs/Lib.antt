@@ -7,3 +7,4 @@ pub mod Fitting
 pub mod After
 pub mod LawfulRun
 pub mod Tail
+pub mod FirstUnfit

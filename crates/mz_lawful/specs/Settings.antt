@@ -7,7 +7,7 @@ use Rattle.mz_events.specs.State.{State}
 use Rattle.mz_record.specs.Moments.{state_at}
 use Rattle.mz_lawful.specs.Standing.{Standing}
 
--- The profile and all entries of the run, in the order of its text; those that have to come before the line, with lower
+-- The profile and all entries of the run, in order of their tickets; those that have to come before the line, with lower
 -- tickets; and what stands when the line is reached. Before a line at the start of a round come all earlier rounds and the
 -- lines at the start of this one before it; before a caller's command all earlier rounds, the lines at the start of this
 -- one, and the caller's own commands before it.
@@ -35,7 +35,8 @@ low s = above s.before
 abbrev pub now : Setting → State
 now s = state_at s.profile s.history (low s)
 
--- a caller's entries from its line on: those of the run without those that come before
+-- A caller's entries from its line on: those of the history but the first ones, as many as it has before the line. Where its tickets rise,
+-- as they do if all its records fit, those before the line are just its first ones.
 abbrev pub own_from : Setting → ℕ → List Entry
 own_from s c = drop (length (own c s.before)) (own c s.history)
 

@@ -22,6 +22,7 @@
 //! - `After`: what stands after a record.
 //! - `LawfulRun`: when a run of a trace is lawful.
 //! - `Tail`: the listing and the statistics behind it.
+//! - `FirstUnfit`: the first record that doesn't fit, and the first wrong line behind a run.
 //!
 //! To the crates above, this one promises that the laws hold of just those definitions. Worked runs,
 //! lawful and spoiled, stand in `mz_examples`.

@@ -8,7 +8,7 @@ use Rattle.std.proofs.lemmas.Option.{none-some}
 use Rattle.mz_base.specs.declared.profile.Profile.{Profile}
 use Rattle.mz_events.specs.declared.entry.Entry.{Entry}
 use Rattle.mz_events.specs.State.{State, opening}
-use Rattle.mz_events.specs.History.{AreLawful, after_all, IsLawfulHistory}
+use Rattle.mz_events.specs.History.{AreLawful, after_all, by_ticket, IsLawfulHistory}
 use Rattle.mz_trace.specs.declared.run.CallRecord.{CallRecord}
 use Rattle.mz_trace.specs.declared.run.RunRound.{RunRound}
 use Rattle.mz_trace.specs.declared.run.Run.{Run}
@@ -21,7 +21,7 @@ use Rattle.mz_lawful.specs.After.{after_record}
 use Rattle.mz_lawful.specs.LawfulRun.{Placed, placed, behind_all, placed_round, placed_rounds, after_rounds, IsLawfulRun, last_standing}
 use Rattle.mz_trace.specs.declared.tail.Figures.{Figures}
 use Rattle.mz_lawful.specs.Tail.{listing_of, statistics_of, tail_of}
-use Rattle.mz_session.specs.Names.{block_with, block_named}
+use Rattle.mz_session.specs.Names.{block_with, holding_named}
 use Rattle.mz_session.specs.Sessions.{SessionView, IsOpened, StandsFor, ArePassed}
 use Rattle.mz_session.specs.Serving.{record_of}
 use Rattle.mz_run.specs.Turns.{step_of, Turn, Turns, RoundTurns, RoundsTurn}
@@ -159,7 +159,7 @@ stands_first p s opened = record {
   zones = refl;
   gifts = subst (λ gs. ArePassed gs []) (sym opened.parcels) tt;
   zone = refl;
-  held = λ name. ap (λ bs. block_named bs name) (sym opened.blocks);
+  held = λ name. ap (λ bs. holding_named bs name) (sym opened.blocks);
   held_once = tt;
   known = λ name b is. absurd (none-some b (ap (λ bs. block_with bs name) (sym opened.blocks) ∙ is));
 }
@@ -213,6 +213,10 @@ module _ (L : RunLaws) (t : Trace) (rounds : List RunRound) (v u : SessionView) 
   lawful_run : AreLawful t.profile opening (entries_of run)
   lawful_run = subst (λ p. AreLawful p opening (entries_of run)) profile_is (subst (AreLawful u.at.book.profile opening) seen_is lawful)
 
+  -- its entries stand in order of their tickets
+  by_ticket_is : by_ticket (entries_of run) ≡ entries_of run
+  by_ticket_is = L.in_order t.profile opening (entries_of run) lawful_run
+
   fit : RoundsFit L t.profile (entries_of run) lawful_run u [] first_standing rounds
   fit = rounds_fit L t.profile (entries_of run) lawful_run v u rounds [] first_standing (record { seen = opened.seen; profile = opened.profile; stands = stands_first t.profile v opened }) turns refl
 
@@ -221,12 +225,12 @@ module _ (L : RunLaws) (t : Trace) (rounds : List RunRound) (v u : SessionView) 
   run_is_lawful told history = record {
     trace = ap (λ rs. record { profile = t.profile; rounds = rs }) told;
     history = subst (λ p. IsLawfulHistory p (entries_of run)) profile_is (subst (IsLawfulHistory u.at.book.profile) seen_is history);
-    fitting = fit.fitting;
+    fitting = subst (λ h. AllByRecursion FitsThere (placed_rounds (setting_at t.profile h [] first_standing) rounds)) (sym by_ticket_is) fit.fitting;
   }
 
   -- and the session stands for what stands at its end
   pub stands_last : StandsFor u (last_standing run)
-  stands_last = fit.stands
+  stands_last = subst (λ h. StandsFor u (after_rounds (setting_at t.profile h [] first_standing) rounds).standing) (sym by_ticket_is) fit.stands
 
   -- what stands behind the run, by what the session keeps
   pub tail_is : (f : Figures) → ((v : Standing) → StandsFor u v → f ≡ tail_at u.at.book.profile v (after_all u.at.book.profile opening u.at.book.seen)) → f ≡ tail_of run
@@ -234,4 +238,4 @@ module _ (L : RunLaws) (t : Trace) (rounds : List RunRound) (v u : SessionView) 
       let w = last_standing run in
       tells w stands_last
       ∙ (ap (λ p. tail_at p w (after_all p opening u.at.book.seen)) profile_is
-      ∙ ap (λ es. tail_at t.profile w (after_all t.profile opening es)) (seen_is ∙ sym (L.in_order t.profile opening (entries_of run) lawful_run)))
+      ∙ ap (λ es. tail_at t.profile w (after_all t.profile opening es)) (seen_is ∙ sym by_ticket_is))

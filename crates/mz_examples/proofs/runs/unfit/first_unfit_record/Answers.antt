@@ -1,0 +1,19 @@
+use Rattle.std.proofs.Common.{refl}
+use Rattle.mz_events.specs.State.{look_up, write}
+use Rattle.mz_base.specs.Lists.{insert_by}
+use Rattle.mz_events.specs.Room.{best_fit}
+use Rattle.mz_events.specs.Effect.{write_all, after}
+use Rattle.mz_events.specs.Rules.{keeps}
+use Rattle.mz_events.specs.History.{after_all, by_ticket, first_breach}
+use Rattle.mz_events.specs.Separation.{by_address}
+use Rattle.mz_record.specs.Zones.{by_page}
+use Rattle.mz_lawful.specs.Standing.{by_index}
+use Rattle.mz_examples.proofs.runs.unfit.first_unfit_record.Goals as goal
+
+pub returns-clause-answer : goal.returns-clause-answer
+unfolding look_up write insert_by best_fit write_all after keeps after_all by_ticket first_breach by_address by_page by_index
+returns-clause-answer c = record { index = 0; here = _; at = refl; unfit = λ fits. let wrong = fits.answer in (cc); fitting = tt; number = refl }
+
+pub returns-clause-left_out : goal.returns-clause-left_out
+unfolding look_up write insert_by best_fit write_all after keeps after_all by_ticket first_breach by_address by_page by_index
+returns-clause-left_out c = record { index = 0; here = _; at = refl; unfit = λ fits. let wrong = fits.answer in (cc); fitting = tt; number = refl }

@@ -1,10 +1,11 @@
 -- What a call of the zone leaves of what a session keeps: where a block was made, where one ended, and where nothing was noted.
 use Rattle.std.proofs.Common.{◌≡◌, ℕ, ◌*◌, ◌≤◌, ◌==◌, Bool, true, false, cond, List, [], ◌∷◌, ◌++◌, length, Option, Some, None, Result, Ok, Err, max, refl, ap, sym, subst, ◌∙◌, inl, inr, arith}
-use Rattle.std.specs.Prelude.{◌⊎◌, slice_get, IsTrue, Contains}
+use Rattle.std.specs.Prelude.{◌⊎◌, ◌&&◌, nat_lt, nat_le, slice_get, IsTrue, Contains}
 use Rattle.std.specs.List.{AllByRecursion}
 use Rattle.std.proofs.lemmas.Bool.{cases_Bool, false≢true, eqb-true}
 use Rattle.std.proofs.lemmas.List.{append-nil}
 use Rattle.mz_base.specs.declared.range.TheConstants.{PAGE}
+use Rattle.mz_base.specs.Sizes.{units_of}
 use Rattle.mz_base.specs.Space.{Block, same_block}
 use Rattle.mz_base.specs.Lists.{has_block, drop_block}
 use Rattle.mz_events.specs.declared.entry.Entry.{Entry}
@@ -35,7 +36,8 @@ use Rattle.mz_zone.specs.declared.fault.SizeFault.{SizeFault}
 use Rattle.mz_zone.specs.declared.fault.SizeFault.TheVariants as size
 use Rattle.mz_zone.specs.Blocks.{BlockView, block_of, slot_added, slot_dropped}
 use Rattle.mz_zone.specs.Calling.{Seated, AtView, IsSeatedAt, CanCall, HasSlot, IsHandedIn, apart_from_nano, StaysSeated, Goes, hand_in}
-use Rattle.mz_zone.specs.Answering.{Answers, Callocs, Memaligns, block_got, hand_got}
+use Rattle.mz_zone.specs.Counts.{has_nano, counts_in, counts_of, TriesIf, Tries}
+use Rattle.mz_zone.specs.Answering.{Answers, Callocs, Memaligns, block_got, slot_got, hand_got}
 use Rattle.mz_zone.specs.Freeing.{Frees, FreesOfSize}
 use Rattle.mz_session.specs.Seats.{HasOneSeat}
 use Rattle.mz_session.specs.SessionLaws.{SessionLaws}
@@ -95,6 +97,20 @@ stays-seated s t (Some x) (Some y) profile site sits stays = record {
   blocks = ap blocks_of stays.0 ∙ sits.blocks ∙ ap (λ p. p.nano) (sym profile);
   space = ap space_of stays.0 ∙ sits.space ∙ sym site;
 }
+
+nano-stays : (x y : Option Seated) → StaysSeated x y → has_nano y ≡ has_nano x
+nano-stays None None stays = refl
+nano-stays None (Some y) stays = absurd stays
+nano-stays (Some x) None stays = absurd stays
+nano-stays (Some x) (Some y) stays = refl
+
+-- what is counted of nano doesn't read how much room the book has
+counts-in-room : (a : Account) (k : ℕ) (n : Option Seated) → counts_in (record a { spare = k }) n ≡ counts_in a n
+counts-in-room a k None = refl
+counts-in-room a k (Some x) = refl
+
+pub counts-roomier : (s : SessionView) (b : Account) → HasMoreRoom s.at.book b → counts_of (roomier s b) ≡ counts_of s.at
+counts-roomier s b room = ap (λ a. counts_in a s.at.nano) room ∙ counts-in-room s.at.book b.spare s.at.nano
 
 one-seat-stays : (x y : Option Seated) → StaysSeated x y → HasOneSeat x → HasOneSeat y
 one-seat-stays None None stays one = tt
@@ -224,6 +240,7 @@ module _ (L : SessionLaws) (s : SessionView) (loose : List BlockView) (kept : Ke
     zone_open = goes.adds.zones 0 ∙ ap (λ x. is_open (state_of x) 0) room ∙ kept.zone_open;
     nothing_held = goes.nothing_held;
     seated = stays-seated s.at.book w.book s.at.nano w.nano same-profile same-site kept.seated goes.nano;
+    nano = nano-stays s.at.nano w.nano goes.nano ∙ kept.nano ∙ ap (λ p. nat_lt 0 p.nano) (sym same-profile);
     one_seat = one-seat-stays s.at.nano w.nano goes.nano kept.one_seat;
     ours = ours;
     in_hand = counts;
@@ -233,6 +250,13 @@ module _ (L : SessionLaws) (s : SessionView) (loose : List BlockView) (kept : Ke
         ∙ mine-through 0 b.pairs mine (ap (λ x. are_mine 0 x.pairs) room ∙ kept.mine);
     new_names = kept.new_names;
   }
+
+-- nano was tried as the session's nano, whatever room its book has
+pub tries-roomier :
+    (s : SessionView) (b : Account) → HasMoreRoom s.at.book b → (z n al : ℕ) (slot : Option Held) (w : AtView) → z ≡ 0 → Tries (roomier s b) z n al slot w → Tries s.at 0 n al slot w
+tries-roomier s b room z n al slot w is tries =
+    subst (λ y. Tries s.at y n al slot w) is
+    (subst (λ x. TriesIf (has_nano s.at.nano && (z == 0) && nat_le n 256 && (al == 16)) (units_of n) x slot (counts_of w)) (counts-roomier s b room) tries)
 
 -- a request was made
 
@@ -250,6 +274,7 @@ makes L s kept b room n al got w asked orderly placed =
       mine = mine;
       notes = notes-call L s [] kept b room w mine asked.goes orderly;
       serves = request;
+      tries = tries-roomier s b room s.zone.zone n al (slot_got got) w kept.zone asked.tries;
       keeps = keeps-made L s kept b room n al got w asked orderly placed (by-hand L s kept b room n al got w asked orderly);
     }
   where
@@ -360,6 +385,7 @@ rests s loose kept b room = record {
     zone_open = ap (λ x. is_open (state_of x) 0) room ∙ kept.zone_open;
     nothing_held = record { keepers = ap (λ x. x.held) room ∙ kept.nothing_held.keepers; lights = ap (λ x. x.lights) room ∙ kept.nothing_held.lights };
     seated = seated-with-room s.at.book b s.at.nano room kept.seated;
+    nano = kept.nano ∙ ap (λ x. nat_lt 0 x.profile.nano) (sym room);
     one_seat = kept.one_seat;
     ours = λ y there.
         let ours = kept.ours y there in

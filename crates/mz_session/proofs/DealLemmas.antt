@@ -19,6 +19,7 @@ use Rattle.mz_nano.specs.declared.nano.Nano.{Nano}
 use Rattle.mz_nano.specs.declared.seat.NanoSeat.{NanoSeat}
 use Rattle.mz_zone.specs.Blocks.{block_of, slot_added}
 use Rattle.mz_zone.specs.Calling.{Seated, IsSeated, IsSeatedAt, IsInSeat, HasSlot}
+use Rattle.mz_zone.specs.Counts.{has_nano}
 use Rattle.mz_session.specs.declared.parcel.Parcel.{Parcel}
 use Rattle.mz_session.specs.Seats.{HasOneSeat, deal_of, seat_of}
 use Rattle.mz_session.specs.Giving.{slots_of}
@@ -257,9 +258,9 @@ slot-case o n base None moves has = tt
 slot-case o n base (Some h) moves has = moves h has
 
 pub keeps-seat :
-    (s : SessionView) (n : Option Seated) → IsKept s → IsSeatedAt s.at.book n → HasOneSeat n → ((base : ℕ) (h : Held) → HasSlot s.at.nano base (Some h) → HasSlot n base (Some h))
+    (s : SessionView) (n : Option Seated) → IsKept s → IsSeatedAt s.at.book n → has_nano n ≡ has_nano s.at.nano → HasOneSeat n → ((base : ℕ) (h : Held) → HasSlot s.at.nano base (Some h) → HasSlot n base (Some h))
     → IsKept (with_nano s n)
-keeps-seat s n kept seated one moves = record {
+keeps-seat s n kept seated there one moves = record {
   profile = kept.profile;
   zone = kept.zone;
   for_one = kept.for_one;
@@ -268,6 +269,7 @@ keeps-seat s n kept seated one moves = record {
   zone_open = kept.zone_open;
   nothing_held = kept.nothing_held;
   seated = seated;
+  nano = there ∙ kept.nano;
   one_seat = one;
   ours = λ b there. let ours = kept.ours b there in record { zone = ours.zone; space = ours.space; slot = slot-case s.at.nano n b.base b.slot (moves b.base) ours.slot; place = ours.place };
   in_hand = kept.in_hand;
@@ -310,5 +312,5 @@ rests-dealt s x nano seats got kept is once same all hands last =
     let moves : (base : ℕ) (h : Held) → HasSlot s.at.nano base (Some h) → HasSlot (Some z) base (Some h) = λ base h has.
     let slot : IsInSeat (Some x) base h = subst (λ n. HasSlot n base (Some h)) is has in
     (slot.0 ∙ ap first_of (sym same), subst (In h) (sym hand) (stays.still h slot.1)) in
-    let rests : AreAtRest s (with_nano s (Some z)) = record { zone = refl; book = refl; blocks = refl; parcels = refl; kept = keeps-seat s (Some z) kept seated (ap seats_of same ∙ single) moves } in
+    let rests : AreAtRest s (with_nano s (Some z)) = record { zone = refl; book = refl; blocks = refl; parcels = refl; kept = keeps-seat s (Some z) kept seated (ap has_nano (sym is)) (ap seats_of same ∙ single) moves } in
     subst (λ n. AreAtRest s (with_nano s n)) (sym now) rests

@@ -157,6 +157,7 @@ keeps-sent s p kept free others =
       zone_open = kept.zone_open;
       nothing_held = kept.nothing_held;
       seated = kept.seated;
+      nano = kept.nano;
       one_seat = kept.one_seat;
       ours = λ x there. kept.ours x
           (kept-cases t [] x (Contains (views_kept s loose) x) there (λ front. kept-named s loose x front)
@@ -268,6 +269,7 @@ keeps-arrived s g gs kept =
       zone_open = kept.zone_open;
       nothing_held = kept.nothing_held;
       seated = kept.seated;
+      nano = kept.nano;
       one_seat = kept.one_seat;
       ours = λ x there. kept.ours x
           (kept-cases t (g.block ∷ []) x (Contains (views_kept (with_coming s (g ∷ gs)) []) x) there

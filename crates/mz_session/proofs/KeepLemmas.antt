@@ -1,6 +1,6 @@
 -- What a session keeps: each block once, under a name, on its way or besides; and how that moves on where a name gets a block or loses it.
 use Rattle.std.proofs.Common.{◌≡◌, ℕ, ◌+◌, ◌≤◌, ◌==◌, Bool, true, false, cond, List, [], ◌∷◌, ◌++◌, Option, Some, None, Result, Ok, Err, refl, ap, sym, subst, ◌∙◌, inl, inr, arith}
-use Rattle.std.specs.Prelude.{◌||◌, ◌⊎◌, map, is_some, Contains, OnOk}
+use Rattle.std.specs.Prelude.{◌||◌, ◌⊎◌, nat_lt, map, is_some, Contains, OnOk}
 use Rattle.std.specs.List.{list_all, list_any}
 use Rattle.std.specs.Option.{option_map}
 use Rattle.std.specs.Str.{bytes_eq}
@@ -17,6 +17,7 @@ use Rattle.mz_book.specs.Account.{HoldsNothing, state_of, hand}
 use Rattle.mz_book.specs.Living.{times}
 use Rattle.mz_zone.specs.Blocks.{BlockView, block_of}
 use Rattle.mz_zone.specs.Calling.{IsSeatedAt}
+use Rattle.mz_zone.specs.Counts.{has_nano}
 use Rattle.mz_session.specs.declared.parcel.Parcel.{Parcel}
 use Rattle.mz_session.specs.Names.{NamedBlocks, views_named, blocks_named, block_with}
 use Rattle.mz_session.specs.Changes.{count_in, AreWith}
@@ -243,6 +244,7 @@ keeps-renamed s t old new kept renames members counts fresh =
       zone_open = ap (λ v. is_open (state_of v.book) 0) renames.at ∙ kept.zone_open;
       nothing_held = subst (λ v. HoldsNothing v.book) at kept.nothing_held;
       seated = subst (λ v. IsSeatedAt v.book v.nano) at kept.seated;
+      nano = subst (λ v. has_nano v.nano ≡ nat_lt 0 v.book.profile.nano) at kept.nano;
       one_seat = subst (λ v. HasOneSeat v.nano) at kept.one_seat;
       ours = λ x there. subst (λ v. IsOurs v x) at (kept.ours x (members x there));
       in_hand = λ b. ap (λ v. times b (hand v.book)) renames.at ∙ kept.in_hand b ∙ sym (counts b);

@@ -36,7 +36,7 @@ use Rattle.mz_session.proofs.CountLemmas.{some-is, same-self, same-is, one-true,
 use Rattle.mz_session.proofs.KeepLemmas.{loose-counted, there-first, there-behind, kept-more, kept-fewer, kept-loose, only-loose, kept-beside}
 use Rattle.mz_session.proofs.PlaceLemmas.{other-slot}
 use Rattle.mz_session.specs.Asking.{HasMoreRoom, roomier, moved, HasAsked}
-use Rattle.mz_session.proofs.CallLemmas.{notes-call, more-seen, above-before, same-profile, hand-through-mine, ours-stays, keeps-moved, in-added, in-dropped, symmetric, not-denied}
+use Rattle.mz_session.proofs.CallLemmas.{notes-call, more-seen, above-before, same-profile, counts-roomier, tries-roomier, hand-through-mine, ours-stays, keeps-moved, in-added, in-dropped, symmetric, not-denied}
 
 -- how often a block is among some of which one has become another
 
@@ -272,6 +272,7 @@ module _ (L : SessionLaws) (s : SessionView) (x : BlockView) (kept : Keeps s (x 
         mine = mine;
         notes = notes-call L s (x ∷ []) kept b room w mine goes orderly;
         resizing = inl (subst (λ (p : Profile). IsResized p (block_of x) n mine (Some (block_of d))) (ap (λ a. a.profile) room) stays.resized);
+        tries = (λ same. stays.counts ∙ counts-roomier s b room, λ other. absurd (other (ap (λ v. v.span.first) stays.place)));
         keeps = keeps-moved L s (x ∷ []) kept b room w mine goes orderly (d ∷ [])
             (λ y at. elim (kept-fewer s y d [] at) [
               | inl same ↦ subst (IsOurs w) same (subst (IsOurs w) (sym stays.place) (ours-there d stays placed (ours-stays L s (x ∷ []) kept b room w mine goes orderly x (λ h is in_it. subst (In h) (sym stays.hand) in_it) was)))
@@ -301,6 +302,7 @@ module _ (L : SessionLaws) (s : SessionView) (x : BlockView) (kept : Keeps s (x 
         mine = mine;
         notes = notes-call L s (x ∷ []) kept b room w mine goes orderly;
         resizing = inr (moved-then (Some (block_of d)) mine on.t (on.before.all_seen) on.before.none_noted on.moved goes);
+        tries = (λ same. absurd (on.elsewhere (sym same)), λ other_first. tries-roomier s b room s.zone.zone n 16 d.slot w kept.zone on.tries);
         keeps = keeps-moved L s (x ∷ []) kept b room w mine goes orderly (d ∷ [])
             (λ y at. elim (kept-fewer s y d [] at) [
               | inl same ↦ subst (IsOurs w) same (record {
@@ -326,6 +328,7 @@ module _ (L : SessionLaws) (s : SessionView) (x : BlockView) (kept : Keeps s (x 
         mine = mine;
         notes = notes-call L s (x ∷ []) kept b room w mine goes orderly;
         resizing = inr (moved-then None mine on.t (on.before.all_seen) on.before.none_noted on.moved goes);
+        tries = tries-roomier s b room s.zone.zone n 16 None w kept.zone on.tries;
         keeps = keeps-moved L s (x ∷ []) kept b room w mine goes orderly (x ∷ [])
             (λ y at. ours-stays L s (x ∷ []) kept b room w mine goes orderly y (λ h is in_it. subst (In h) (sym on.hand) in_it) (kept.ours y at))
             (λ c. ap (times c) (hand-through-mine L s (x ∷ []) kept b room w mine goes orderly ∙ stayed-hand L b.profile w.book.seen mine (resize_at b on.t s.zone.zone (block_of x) n) (hand s.at.book) on.moved) ∙ kept.in_hand c);

@@ -111,6 +111,7 @@ module _ (s : SessionView) (bs : NamedBlocks) (name : Name) (b : BlockView) (ws 
     zone_open = kept.zone_open;
     nothing_held = kept.nothing_held;
     seated = kept.seated;
+    nano = kept.nano;
     one_seat = kept.one_seat;
     ours = our-own;
     in_hand = λ d.

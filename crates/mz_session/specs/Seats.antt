@@ -1,5 +1,5 @@
 -- Nano with the seat of a caller, as a session keeps it. This project's own.
-use Rattle.std.specs.Prelude.{◌≡◌, [], Option, None, Some}
+use Rattle.std.specs.Prelude.{◌≡◌, ◌<◌, [], Option, None, Some}
 use Rattle.mz_base.specs.declared.profile.Profile.{Profile}
 use Rattle.mz_ground.specs.Views.{SpanView}
 use Rattle.mz_nano.specs.declared.nano.Nano.{Nano}
@@ -20,9 +20,10 @@ seat_of (Some nano) (Some seat) = Some (record { nano = nano; seat = seat })
 abbrev pub without_seat : Account → AtView
 without_seat s = record { book = s; nano = None }
 
--- Nano over these pages, with the profile's blocks and last generation, and its one seat, with nothing in hand; where the profile has no
--- pages for nano there is none.
+-- Nano over these pages, with the profile's blocks and last generation, and its one seat, with nothing in hand; it is there just where the
+-- profile has pages for nano.
 pub record IsNewSeat (pages : SpanView) (p : Profile) (nano : Nano) (seat : NanoSeat) : Type 0 where
+  pub some_pages : 0 < p.nano
   pub sits : SitsAt nano seat
   pub hand : hand_of seat ≡ []
   pub first : first_of nano ≡ pages.first

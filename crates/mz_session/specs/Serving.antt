@@ -33,7 +33,8 @@ use Rattle.mz_zone.specs.declared.fault.AlignFault.TheVariants as align
 use Rattle.mz_zone.specs.declared.fault.SizeFault.{SizeFault}
 use Rattle.mz_zone.specs.declared.fault.SizeFault.TheVariants as size
 use Rattle.mz_zone.specs.Blocks.{BlockView, block_of}
-use Rattle.mz_zone.specs.Answering.{IsCleared, block_got}
+use Rattle.mz_zone.specs.Answering.{IsCleared, block_got, slot_got}
+use Rattle.mz_zone.specs.Counts.{Tries, counts_of}
 use Rattle.mz_session.specs.declared.parcel.Parcel.{Parcel}
 use Rattle.mz_session.specs.Names.{block_with}
 use Rattle.mz_session.specs.Changes.{AreWith}
@@ -62,11 +63,13 @@ abbrev pub view_got : Result BlockView Null → List BlockView
 view_got (Ok b) = b ∷ []
 view_got (Err e) = []
 
--- A request for n bytes at al was made: it is served with the block that came, which the session keeps, or with none.
+-- A request for n bytes at al was made: nano was tried if it is one for nano, and it is served with the block that came, which the session
+-- keeps, or with none.
 pub record Makes (s : SessionView) (n al : ℕ) (got : Result BlockView Null) (t : SessionView) : Type 0 where
   pub mine : List Entry
   pub notes : Notes s mine t
   pub serves : ServesRequest s.at.book.profile t.at.book.seen (request_of 0 0 n al) mine (block_got got)
+  pub tries : Tries s.at 0 n al (slot_got got) t.at
   pub keeps : Keeps t (view_got got)
 
 -- the block that was kept besides those with names and those on their way ended
@@ -108,12 +111,19 @@ abbrev pub AreResizing : SessionView → BlockView → ℕ → List Entry → Op
 AreResizing s b n mine got t =
     IsReallocated s.at.book.profile t.at.book.seen (resize_of s b n (least_ticket (length t.at.book.seen) mine)) mine got
 
+-- Where the block moved, and where it was to and no other came, nano was tried if that was a request for it; where it stays nothing was.
+abbrev pub TriesToMove : SessionView → BlockView → ℕ → Option BlockView → SessionView → Type 0
+TriesToMove s b n None t = Tries s.at 0 n 16 None t.at
+TriesToMove s b n (Some d) t =
+    (d.span.first ≡ b.span.first → counts_of t.at ≡ counts_of s.at) × ((d.span.first ≡ b.span.first → ⊥) → Tries s.at 0 n 16 d.slot t.at)
+
 -- The block became another one of its zone, in its place or elsewhere, with its bytes as far as they were kept; or none
 -- came, and it is still there.
 pub record Remakes (s : SessionView) (b : BlockView) (n : ℕ) (got : Option BlockView) (t : SessionView) : Type 0 where
   pub mine : List Entry
   pub notes : Notes s mine t
   pub resizing : AreResizing s b n mine (option_map block_of got) t
+  pub tries : TriesToMove s b n got t
   pub keeps : Keeps t (elim got [ None ↦ b ∷ [] | Some d ↦ d ∷ [] ])
   pub bytes : (d : BlockView) → got ≡ Some d → is_shown_as (bytes_kept n (block_of b) (block_of d) (map (λ x. Some x) b.span.bytes)) d.span.bytes ≡ true
 

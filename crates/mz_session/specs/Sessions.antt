@@ -1,5 +1,5 @@
 -- What contracts see of a session, what holds of it between two commands, and the standing for which it stands. This project's own.
-use Rattle.std.specs.Prelude.{ℕ, ◌≡◌, ◌≤◌, ◌==◌, true, ◌||◌, Bool, List, [], ◌∷◌, ◌++◌, map, None, Some, IsTrue, Contains, is_some}
+use Rattle.std.specs.Prelude.{ℕ, ◌≡◌, ◌≤◌, ◌==◌, nat_lt, true, ◌||◌, Bool, List, [], ◌∷◌, ◌++◌, map, None, Some, IsTrue, Contains, is_some}
 use Rattle.std.specs.List.{list_all, list_any}
 use Rattle.std.specs.Str.{bytes_eq}
 use Rattle.mz_base.specs.declared.profile.Profile.{Profile}
@@ -15,6 +15,7 @@ use Rattle.mz_book.specs.Living.{times}
 use Rattle.mz_zone.specs.declared.zone.Zone.{Zone}
 use Rattle.mz_zone.specs.Blocks.{BlockView, IsAtItsSlot, block_of}
 use Rattle.mz_zone.specs.Calling.{AtView, IsSeatedAt, HasSlot}
+use Rattle.mz_zone.specs.Counts.{has_nano}
 use Rattle.mz_session.specs.declared.parcel.Parcel.{Parcel}
 use Rattle.mz_session.specs.Names.{NamedBlocks, views_named, block_with, holding_of, holding_named}
 use Rattle.mz_session.specs.Seats.{HasOneSeat}
@@ -52,7 +53,7 @@ AreNewNames bs [] = Unit {0}
 AreNewNames bs (g ∷ gs) = (block_with bs (Given g.name) ≡ None) × ((h : Parcel) → Contains gs h → h.name ≡ g.name → ⊥) × AreNewNames bs gs
 
 -- What holds of a session where it keeps these blocks besides those with names and those on their way. The zone is zone 0, nothing is
--- held, nano has no other seat, and the blocks in the caller's hand are just those that are kept, each once; nobody else owns any.
+-- held, nano is there just where it has pages, and has no other seat, and the blocks in the caller's hand are just those that are kept, each once; nobody else owns any.
 pub record Keeps (s : SessionView) (loose : List BlockView) : Type 0 where
   pub profile : s.zone.profile ≡ s.at.book.profile
   pub zone : s.zone.zone ≡ 0
@@ -62,6 +63,7 @@ pub record Keeps (s : SessionView) (loose : List BlockView) : Type 0 where
   pub zone_open : IsTrue (is_open (state_of s.at.book) 0)
   pub nothing_held : HoldsNothing s.at.book
   pub seated : IsSeatedAt s.at.book s.at.nano
+  pub nano : has_nano s.at.nano ≡ nat_lt 0 s.at.book.profile.nano
   pub one_seat : HasOneSeat s.at.nano
   pub ours : (b : BlockView) → Contains (views_kept s loose) b → IsOurs s.at b
   pub in_hand : (b : Block) → times b (hand s.at.book) ≡ times b (blocks_kept s loose)

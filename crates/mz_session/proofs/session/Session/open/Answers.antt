@@ -4,7 +4,7 @@ use Rattle.mz_base.specs.declared.range.TheConstants.{PAGE}
 use Rattle.mz_events.specs.Places.{nano_start}
 use Rattle.mz_book.specs.Plain.{opening_account, last_site}
 use Rattle.mz_session.specs.Seats.{seat_of}
-use Rattle.mz_session.proofs.OpenedLemmas.{opened, seated-new, one-seat-new}
+use Rattle.mz_session.proofs.OpenedLemmas.{opened, seated-new, nano-new, one-seat-new}
 use Rattle.mz_session.proofs.session.Session.open.Goals as goal
 
 pub returns : goal.returns
@@ -19,6 +19,6 @@ returns c =
     let first : above.first ≡ nano_start p * PAGE = omega (arith, back, start) in
     let space : above.space ≡ x = c.split-below.ensures.back_space ∙ sym c.split-below.ensures.front_space in
     opened p x c.in_ok-zone.zone _ n c.new-4.result c.new-5.result.items c.requires.for_one c.in_ok-zone.ensures.profile c.in_ok-zone.ensures.zone
-    (seated-new p x above n first space c.in_ok-nano.ensures) (one-seat-new above p n c.in_ok-nano.ensures)
+    (seated-new p x above n first space c.in_ok-nano.ensures) (nano-new above p n c.in_ok-nano.ensures) (one-seat-new above p n c.in_ok-nano.ensures)
     (c.in_ok-book.ensures ∙ ap (opening_account p) (ap last_site (map-id c.in_ok-keepers.keepers.items) ∙ c.in_ok-keepers.ensures.space))
     c.new-4.ensures c.new-5.ensures.items

@@ -124,7 +124,8 @@ impl Session {
         Ok(answer)
     }
 
-    /// What stands behind the run so far, when nothing is on its way. Its history is a lawful one.
+    /// What stands behind the run so far, when nothing is on its way, for whatever standing the session stands for. Its history is
+    /// a lawful one.
     pub fn tail(&self, alloc: Global) -> Result<Figures, AllocError>
         requires kept { IsKept self.now }
         requires delivered { self.now.parcels ≡ [] }

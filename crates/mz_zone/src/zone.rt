@@ -48,7 +48,8 @@ impl Zone {
         })
     }
 
-    /// The size of the block that serves a request.
+    /// The least size of a block that serves a request of `n` bytes: its good size, where there can be a block of that size. Any
+    /// block but a large one has just that; a cached run serves as a whole, and may have more.
     pub fn good_size(&self, n: u64) -> Option<u64>
         ensures { result ≡ good_size_within self.now.profile n }
     {

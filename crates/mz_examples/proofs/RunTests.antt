@@ -20,8 +20,8 @@ use Rattle.mz_examples.proofs.ServedTests.{last_of, is_new, is_in_order, ends_we
 
 -- without a dry nothing is disturbed
 pub calm : (p : Profile) (h : List Entry) (c : ℕ) (es : List Entry) → list_all (λ e. not (is_dry e.event)) es ≡ true → IsUndisturbed p h c es
-calm p h c es none e d x j at_e at_d dry at_x after before here there =
-    absurd (flipped (is_dry d.event) dry (all_at (λ (y : Entry). not (is_dry y.event)) es d none at_d))
+calm p h c es none x j at_x there within =
+    absurd (flipped (is_dry within.dry.event) within.is_dry (all_at (λ (y : Entry). not (is_dry y.event)) es within.dry none within.has_dry))
 
 -- so a request is served as it stands
 pub serves : {p : Profile} {h : List Entry} {q : Request} {es : List Entry} {got : Option Block} → list_all (λ e. not (is_dry e.event)) es ≡ true → IsServed p h q es got → Serves p h q es got

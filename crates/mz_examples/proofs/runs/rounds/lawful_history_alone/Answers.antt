@@ -34,5 +34,5 @@ returns-clause-in_between c = (c.lawful_without_breach.ensures (two_callers_in_8
 pub returns-clause-disturbed : goal.returns-clause-disturbed
 unfolding look_up write insert_by best_fit write_all after keeps after_all by_ticket first_breach
 returns-clause-disturbed c = λ s.
-    let mine = s.undisturbed (entry_of_other 2 (event.Full magazine 16 16)) (spot_of magazine) (3, omega arith, refl) refl (record { earlier = entry_of 0 (event.Full magazine 112 16); dry = dry_at 3; has_earlier = (0, omega arith, refl); touched = refl; behind = omega arith; has_dry = (2, omega arith, refl); is_dry = refl; before = omega arith }) in
+    let mine = s.undisturbed (entry_of_other 2 (event.Full magazine 16 16)) (spot_of magazine) (2, omega arith, refl) refl (record { earlier = entry_of 0 (event.Full magazine 112 16); dry = dry_at 3; has_earlier = (0, omega arith, refl); touched = refl; behind = omega arith; has_dry = (2, omega arith, refl); is_dry = refl; before = omega arith }) in
     (cc)

@@ -28,7 +28,7 @@ returns-clause-in_order c = record {
   fitting = (
     record { answer = refl; entries = serves refl (way.by_fresh_region _ 0 0 (take 2 (makes_block 0 1 3 4)) [] (drop 2 (makes_block 0 1 3 4)) refl refl refl tt refl refl); bytes = refl; in_turn = refl },
     (
-      record { answer = refl; entries = record { served = way.null_in_range _ (take 2 (finds_none 2 5 6)) [] (entry_of_other 6 (event.Dry 0 512 512)) refl refl refl tt (record { event = refl; no_duty = refl }) refl; undisturbed = undisturbed_by_test two_callers (entries_of (run_of_rounds crossing)) 1 (finds_none 2 5 6) refl }; bytes = refl; in_turn = refl },
+      record { answer = refl; entries = record { served = way.null_in_range _ (take 2 (finds_none 2 5 6)) [] (entry_of_other 6 (event.Dry 0 512 512)) refl refl refl tt (record { event = refl; no_duty = refl }) refl; undisturbed = undisturbed_by_test two_callers (by_ticket (entries_of (run_of_rounds crossing))) 1 (finds_none 2 5 6) refl }; bytes = refl; in_turn = refl },
       (record { answer = refl; entries = (magazine, refl, refl); bytes = refl; in_turn = refl }, tt),
     ),
   );

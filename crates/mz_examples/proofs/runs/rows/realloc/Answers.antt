@@ -7,6 +7,7 @@ use Rattle.mz_lawful.specs.Records.{entries_of}
 use Rattle.mz_examples.specs.Examples.{profile_of, magazine}
 use Rattle.mz_examples.specs.RunsRows.{first_block, new_at, end_at, row_realloc, resized_once, moves_without_need}
 use Rattle.mz_lines.specs.declared.answer.Answer.TheVariants as answers
+use Rattle.mz_examples.specs.RunsResized.{asks}
 use Rattle.mz_examples.proofs.ResizedTests.{ends_then_moves, no_end_then_stays, stays_with_room}
 use Rattle.mz_examples.proofs.RunTests.{serves}
 use Rattle.mz_events.specs.State.{look_up, write}
@@ -53,8 +54,8 @@ returns-clause-old_size c = λ same. (cc)
 
 pub returns-clause-without_need : goal.returns-clause-without_need
 unfolding look_up write insert_by best_fit write_all after keeps after_all by_ticket first_breach by_address by_page by_index
-returns-clause-without_need c = λ done. stays_with_room (profile_of 64) (entries_of (resized_once moves_without_need (answers.Block 48 112))) 4 (block_at 0 48) 100 (record { asked = omega arith; ranges = refl; not_large = λ same. (cc); in_region = refl }) refl (ends_then_moves (profile_of 64) (entries_of (resized_once moves_without_need (answers.Block 48 112))) 4 4 0 done.z (block_at 0 48) 100 moves_without_need (Some (block_at 48 112)) done.entries refl)
+returns-clause-without_need c = λ done. stays_with_room (profile_of 64) (by_ticket (entries_of (resized_once moves_without_need (answers.Block 48 112)))) 4 (block_at 0 48) 100 (record { asked = omega arith; ranges = refl; not_large = λ same. (cc); in_region = refl }) refl (ends_then_moves (profile_of 64) (by_ticket (entries_of (resized_once moves_without_need (answers.Block 48 112)))) (asks 4 4 0 (block_at 0 48) 100) moves_without_need (Some (block_at 48 112)) done refl)
 
 pub returns-clause-left_out : goal.returns-clause-left_out
 unfolding look_up write insert_by best_fit write_all after keeps after_all by_ticket first_breach by_address by_page by_index
-returns-clause-left_out c = λ done. false≢true (no_end_then_stays (profile_of 64) (first_block 48) 4 4 0 done.z (block_at 0 48) 100 [] (block_at 0 48) done.entries refl)
+returns-clause-left_out c = λ done. false≢true (no_end_then_stays (profile_of 64) (first_block 48) (asks 4 4 0 (block_at 0 48) 100) [] (block_at 0 48) done refl)

@@ -8,6 +8,7 @@ use Rattle.mz_events.specs.declared.event.Event.TheVariants as event
 use Rattle.mz_lines.specs.declared.answer.Answer.TheVariants as answers
 use Rattle.mz_examples.specs.Examples.{profile_of, entry_of, magazine}
 use Rattle.mz_examples.specs.RunsRows.{first_block, renamed, not_moved, no_small_region}
+use Rattle.mz_examples.specs.RunsResized.{asks}
 use Rattle.mz_examples.proofs.UndisturbedTest.{undisturbed_by_test}
 use Rattle.mz_examples.proofs.ResizedTests.{no_end_then_stays}
 use Rattle.mz_examples.proofs.RunTests.{serves}
@@ -66,4 +67,4 @@ returns-clause-not_null c = λ same. (cc)
 
 pub returns-clause-made_up_null : goal.returns-clause-made_up_null
 unfolding look_up write insert_by best_fit write_all after keeps after_all by_ticket first_breach
-returns-clause-made_up_null c = λ done. false≢true (no_end_then_stays (profile_of 64) (entries_of (not_moved [] answers.Null)) 4 5 0 done.z (block_at 0 48) 2000 [] (block_at 0 48) done.entries refl)
+returns-clause-made_up_null c = λ done. false≢true (no_end_then_stays (profile_of 64) (by_ticket (entries_of (not_moved [] answers.Null))) (asks 4 5 0 (block_at 0 48) 2000) [] (block_at 0 48) done refl)

@@ -1,4 +1,6 @@
 use Rattle.std.proofs.Common.{refl}
+use Rattle.core.specs.Fmt.{digits}
+use Rattle.mz_words.specs.Kinds.{word_text}
 use Rattle.mz_events.specs.State.{look_up, write}
 use Rattle.mz_base.specs.Lists.{insert_by}
 use Rattle.mz_events.specs.Room.{best_fit}
@@ -11,17 +13,17 @@ use Rattle.mz_lawful.specs.Standing.{by_index}
 use Rattle.mz_examples.proofs.runs.unfit.first_wrong_lines.Goals as goal
 
 pub returns-clause-none : goal.returns-clause-none
-unfolding look_up write insert_by best_fit write_all after keeps after_all by_ticket first_breach by_address by_page by_index
+unfolding word_text digits look_up write insert_by best_fit write_all after keeps after_all by_ticket first_breach by_address by_page by_index
 returns-clause-none c = refl
 
 pub returns-clause-number : goal.returns-clause-number
-unfolding look_up write insert_by best_fit write_all after keeps after_all by_ticket first_breach by_address by_page by_index
+unfolding word_text digits look_up write insert_by best_fit write_all after keeps after_all by_ticket first_breach by_address by_page by_index
 returns-clause-number c = refl
 
 pub returns-clause-missing : goal.returns-clause-missing
-unfolding look_up write insert_by best_fit write_all after keeps after_all by_ticket first_breach by_address by_page by_index
+unfolding word_text digits look_up write insert_by best_fit write_all after keeps after_all by_ticket first_breach by_address by_page by_index
 returns-clause-missing c = refl
 
 pub returns-clause-left_over : goal.returns-clause-left_over
-unfolding look_up write insert_by best_fit write_all after keeps after_all by_ticket first_breach by_address by_page by_index
+unfolding word_text digits look_up write insert_by best_fit write_all after keeps after_all by_ticket first_breach by_address by_page by_index
 returns-clause-left_over c = refl

@@ -15,7 +15,7 @@ use Rattle.mz_lawful.specs.Standing.{by_index}
 use Rattle.mz_examples.proofs.runs.unfit.first_unfit_record.Goals as goal
 
 -- the size of the block of an answer
-size_told : Answer → ℕ
+abbrev size_told : Answer → ℕ
 size_told (answers.Block a s) = s
 size_told _ = 0
 

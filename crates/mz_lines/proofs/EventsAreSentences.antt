@@ -1,5 +1,5 @@
 -- Events and their sentences determine each other.
-use Rattle.std.proofs.Common.{◌≡◌, ◌≤◌, map, List, [], ◌∷◌, length, refl, sym, ◌∙◌, Some}
+use Rattle.std.proofs.Common.{◌≡◌, ◌≤◌, map, List, length, refl, sym, ◌∙◌, Some}
 use Rattle.mz_words.specs.declared.kind.Word.{Word}
 use Rattle.mz_words.specs.declared.table.Form.{Form}
 use Rattle.mz_words.specs.declared.table.TheConstants.{EVENTS}

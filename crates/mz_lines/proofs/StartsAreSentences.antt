@@ -1,9 +1,8 @@
 -- Lines at the start of a round and their sentences determine each other.
-use Rattle.std.proofs.Common.{◌≡◌, ℕ, ◌<◌, ◌≤◌, ◌^◌, true, map, List, [], ◌∷◌, length, refl, subst, sym, ap, ◌∙◌, lit<, Option, Some}
+use Rattle.std.proofs.Common.{◌≡◌, ℕ, ◌<◌, ◌≤◌, ◌^◌, true, map, List, [], length, refl, subst, sym, ap, ◌∙◌, lit<, Option, Some}
 use Rattle.std.specs.Prelude.{is_some, is_none}
 use Rattle.std.specs.List.{list_all}
 use Rattle.mz_words.specs.declared.kind.Word.{Word}
-use Rattle.mz_words.specs.declared.kind.Word.TheVariants.{Number, Zone}
 use Rattle.mz_words.specs.declared.table.Form.{Form}
 use Rattle.mz_words.specs.declared.table.Form.TheVariants as form
 use Rattle.mz_words.specs.declared.table.TheConstants.{ROUND_LINES}

@@ -7,7 +7,7 @@ use Rattle.std.proofs.lemmas.Bool.{and_parts}
 use Rattle.std.proofs.lemmas.Slice.Eq.{bytes_eq-Decides}
 use Rattle.mz_base.specs.Names.{is_base_name}
 use Rattle.mz_words.specs.declared.kind.Word.{Word}
-use Rattle.mz_words.specs.declared.kind.Word.TheVariants.{Number, Caller, Base, Name as Named, Old, New, Given, Zone, Byte, ShowCount, BatchCount}
+use Rattle.mz_words.specs.declared.kind.Word.TheVariants.{Number, Old, New}
 use Rattle.mz_words.specs.declared.table.Form.{Form}
 use Rattle.mz_words.specs.declared.table.Form.TheVariants as form
 use Rattle.mz_words.specs.declared.table.TheConstants.{COMMANDS}
@@ -26,6 +26,7 @@ use Rattle.mz_lines.specs.declared.command.Command.TheVariants as command
 use Rattle.mz_lines.specs.Commands.{command_sentence, command_of, command_in, command_words, command_fits}
 use Rattle.mz_lines.proofs.Options.{some_same, bind_none}
 use Rattle.mz_lines.proofs.ValuesAreSentences.{Converts, of_some, again, spelled, few_words}
+use Rattle.mz_lines.proofs.WordsOfKinds.{of_each}
 
 -- a command is told by its sentence
 command_told : (c : Command) → command_of (command_sentence c).form (command_sentence c).words ≡ Some c
@@ -91,25 +92,29 @@ realloc_is k callers (Some old) (name.Given g) n fits =
     let r = and_parts (name_fits (name.Given g)) (is_new (name_word old) (given_word g)) q.0 in
     record { value = command.Realloc (KeptGiven g) n; told = refl; same = is_realloc old (name.Given g) n (kept k old (name.Given g) p.0 r.0 refl r.1) }
 
+is_command : (callers : ℕ) (c : Command) → words_fit callers [] (command_sentence c).words ≡ true → IsCommand (command_sentence c).form (command_sentence c).words
+is_command callers c fits = record { value = c; told = command_told c; same = refl }
+
 command_is : WordLaws → (callers : ℕ) (f : Form) (ws : List Word) → map kind_of ws ≡ kinds_of f → form_among COMMANDS (form_word f) ≡ Some f → words_fit callers [] ws ≡ true → IsCommand f ws
-command_is k callers form.Malloc (Base name ∷ Number n ∷ []) kinds among fits = record { value = command.Malloc name n; told = refl; same = refl }
-command_is k callers form.Calloc (Base name ∷ Number n ∷ Number m ∷ []) kinds among fits = record { value = command.Calloc name n m; told = refl; same = refl }
-command_is k callers form.Valloc (Base name ∷ Number n ∷ []) kinds among fits = record { value = command.Valloc name n; told = refl; same = refl }
-command_is k callers form.Memalign (Base name ∷ Number al ∷ Number n ∷ []) kinds among fits = record { value = command.Memalign name al n; told = refl; same = refl }
-command_is k callers form.Realloc (Old old ∷ New new ∷ Number n ∷ []) kinds among fits = realloc_is k callers old new n fits
-command_is k callers form.Free (Named name ∷ []) kinds among fits = record { value = command.Free name; told = refl; same = refl }
-command_is k callers form.FreeAt (Named name ∷ Number off ∷ []) kinds among fits = record { value = command.FreeAt name off; told = refl; same = refl }
-command_is k callers form.ZoneFree (Zone zone ∷ Named name ∷ []) kinds among fits = record { value = command.ZoneFree zone name; told = refl; same = refl }
-command_is k callers form.SizedFree (Named name ∷ Number n ∷ []) kinds among fits = record { value = command.SizedFree name n; told = refl; same = refl }
-command_is k callers form.Size (Named name ∷ []) kinds among fits = record { value = command.Size name; told = refl; same = refl }
-command_is k callers form.Fill (Named name ∷ Byte byte ∷ []) kinds among fits = record { value = command.Fill name byte; told = refl; same = refl }
-command_is k callers form.Show (Named name ∷ Number off ∷ ShowCount count ∷ []) kinds among fits = record { value = command.Show name off count; told = refl; same = refl }
-command_is k callers form.Link (Named name ∷ Number off ∷ Named target ∷ []) kinds among fits = record { value = command.Link name off target; told = refl; same = refl }
-command_is k callers form.Give (Named name ∷ Caller to ∷ Given given ∷ []) kinds among fits = record { value = command.Give name to given; told = refl; same = refl }
-command_is k callers form.Batch (Base name ∷ BatchCount count ∷ Number n ∷ []) kinds among fits = record { value = command.Batch name count n; told = refl; same = refl }
-command_is k callers form.Unbatch (Base name ∷ []) kinds among fits = record { value = command.Unbatch name; told = refl; same = refl }
-command_is k callers form.Use (Zone zone ∷ []) kinds among fits = record { value = command.Use zone; told = refl; same = refl }
-command_is k callers _ _ kinds among fits = absurd cc
+command_is k callers f ws kinds among =
+    of_each (λ g vs. words_fit callers [] vs ≡ true → IsCommand g vs) COMMANDS (form_word f) f ws among kinds
+    (λ name n. is_command callers (command.Malloc name n))
+    (λ name n m. is_command callers (command.Calloc name n m))
+    (λ name n. is_command callers (command.Valloc name n))
+    (λ name al n. is_command callers (command.Memalign name al n))
+    (λ old new n. realloc_is k callers old new n)
+    (λ name. is_command callers (command.Free name))
+    (λ name off. is_command callers (command.FreeAt name off))
+    (λ zone name. is_command callers (command.ZoneFree zone name))
+    (λ name n. is_command callers (command.SizedFree name n))
+    (λ name. is_command callers (command.Size name))
+    (λ name byte. is_command callers (command.Fill name byte))
+    (λ name off count. is_command callers (command.Show name off count))
+    (λ name off target. is_command callers (command.Link name off target))
+    (λ name to given. is_command callers (command.Give name to given))
+    (λ name count n. is_command callers (command.Batch name count n))
+    (λ name. is_command callers (command.Unbatch name))
+    (λ zone. is_command callers (command.Use zone))
 
 is_of : WordLaws → (callers : ℕ) (s : Sentence) → IsSentence callers COMMANDS s → IsCommand s.form s.words
 is_of k callers s h = command_is k callers s.form s.words h.kinds h.form h.fits

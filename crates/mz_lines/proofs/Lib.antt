@@ -1,5 +1,6 @@
 -- Values and their sentences.
 pub mod Options
+mod WordsOfKinds
 pub mod ValuesAreSentences
 pub mod CommandsAreSentences
 pub mod StartsAreSentences

@@ -1,9 +1,8 @@
 -- Lines at the start of a round and their sentences determine each other.
-use Rattle.std.proofs.Common.{◌≡◌, ℕ, ◌<◌, ◌≤◌, ◌^◌, true, map, List, [], ◌∷◌, length, refl, subst, sym, ap, ◌∙◌, lit<, Option, Some}
+use Rattle.std.proofs.Common.{◌≡◌, ℕ, ◌<◌, ◌≤◌, ◌^◌, true, map, List, [], length, refl, subst, sym, ap, ◌∙◌, lit<, Option, Some}
 use Rattle.std.specs.Prelude.{is_some, is_none}
 use Rattle.std.specs.List.{list_all}
 use Rattle.mz_words.specs.declared.kind.Word.{Word}
-use Rattle.mz_words.specs.declared.kind.Word.TheVariants.{Number, Zone}
 use Rattle.mz_words.specs.declared.table.Form.{Form}
 use Rattle.mz_words.specs.declared.table.Form.TheVariants as form
 use Rattle.mz_words.specs.declared.table.TheConstants.{ROUND_LINES}
@@ -23,6 +22,7 @@ use Rattle.mz_lines.specs.Lines.{line_words, line_fits}
 use Rattle.mz_lines.specs.LineReading.{heading_of, heading_in}
 use Rattle.mz_lines.proofs.Options.{bind_parts, some_same, bind_none}
 use Rattle.mz_lines.proofs.ValuesAreSentences.{Converts, of_some, few_words}
+use Rattle.mz_lines.proofs.WordsOfKinds.{no_value, of_each}
 
 start_told : (x : RoundLine) → start_of (start_sentence x).form (start_sentence x).words ≡ Some x
 start_told (at.Zone zone) = refl
@@ -42,15 +42,20 @@ unfolding word_fits
 start_fits_for callers (at.Zone zone) = refl
 start_fits_for callers _ = refl
 
-told_start : (f : Form) (ws : List Word) (x : RoundLine) → start_of f ws ≡ Some x → start_sentence x ≡ sentence f ws
-told_start form.Zone (Zone zone ∷ []) x h = of_some start_sentence _ x _ h refl
-told_start form.Destroy (Zone zone ∷ []) x h = of_some start_sentence _ x _ h refl
-told_start form.SizeAt (Zone zone ∷ Number addr ∷ []) x h = of_some start_sentence _ x _ h refl
-told_start form.Where (Number addr ∷ []) x h = of_some start_sentence _ x _ h refl
-told_start _ _ x h = absurd cc
+same_start : (y x : RoundLine) → start_of (start_sentence y).form (start_sentence y).words ≡ Some x → start_sentence x ≡ start_sentence y
+same_start y x h = of_some start_sentence y x (start_sentence y) (sym (start_told y) ∙ h) refl
+
+told_start : (f : Form) (ws : List Word) → form_among ROUND_LINES (form_word f) ≡ Some f → map kind_of ws ≡ kinds_of f → (x : RoundLine) → start_of f ws ≡ Some x → start_sentence x ≡ sentence f ws
+told_start f ws among kinds =
+    of_each (λ g vs. (x : RoundLine) → start_of g vs ≡ Some x → start_sentence x ≡ sentence g vs) ROUND_LINES (form_word f) f ws among kinds
+    (λ x h. no_value x h)
+    (λ zone. same_start (at.Zone zone))
+    (λ zone. same_start (at.Destroy zone))
+    (λ zone addr. same_start (at.Size zone addr))
+    (λ addr. same_start (at.Where addr))
 
 pub starts : (callers : ℕ) → Converts RoundLine callers ROUND_LINES start_sentence start_of
-starts callers = record { told = start_told; form = start_form; kinds = start_kinds; back = λ s x is h. told_start s.form s.words x h }
+starts callers = record { told = start_told; form = start_form; kinds = start_kinds; back = λ s x is h. told_start s.form s.words is.form is.kinds x h }
 
 pub start_visible : WordLaws → (x : RoundLine) → start_fits x ≡ true → are_visible (start_words x) ≡ true
 start_visible k x h = k.sentences.visible 0 (start_sentence x) (lit< tt) h
@@ -89,16 +94,20 @@ record IsHeading (callers : ℕ) (f : Form) (ws : List Word) : Type 0 where
   told : heading_of f ws ≡ Some value
   spelled : HeadingSpelled callers (sentence_words (sentence f ws)) value
 
-started : (callers : ℕ) (y : RoundLine) → words_fit callers [] (start_sentence y).words ≡ true → HeadingSpelled callers (start_words y) (Start y)
-started callers y fits = record { words = refl; fits = sym (start_fits_for callers y) ∙ fits }
+round_is : (callers : ℕ) → IsHeading callers form.Round []
+round_is callers = record { value = Round; told = refl; spelled = record { words = refl; fits = refl } }
+
+start_is : (callers : ℕ) (x : RoundLine) → words_fit callers [] (start_sentence x).words ≡ true → IsHeading callers (start_sentence x).form (start_sentence x).words
+start_is callers x fits = record { value = Start x; told = headed x; spelled = record { words = refl; fits = sym (start_fits_for callers x) ∙ fits } }
 
 heading_is : (callers : ℕ) (f : Form) (ws : List Word) → map kind_of ws ≡ kinds_of f → form_among ROUND_LINES (form_word f) ≡ Some f → words_fit callers [] ws ≡ true → IsHeading callers f ws
-heading_is callers form.Round [] kinds among fits = record { value = Round; told = refl; spelled = record { words = refl; fits = refl } }
-heading_is callers form.Zone (Zone zone ∷ []) kinds among fits = record { value = Start (at.Zone zone); told = refl; spelled = started callers (at.Zone zone) fits }
-heading_is callers form.Destroy (Zone zone ∷ []) kinds among fits = record { value = Start (at.Destroy zone); told = refl; spelled = started callers (at.Destroy zone) fits }
-heading_is callers form.SizeAt (Zone zone ∷ Number addr ∷ []) kinds among fits = record { value = Start (at.Size zone addr); told = refl; spelled = started callers (at.Size zone addr) fits }
-heading_is callers form.Where (Number addr ∷ []) kinds among fits = record { value = Start (at.Where addr); told = refl; spelled = started callers (at.Where addr) fits }
-heading_is callers _ _ kinds among fits = absurd cc
+heading_is callers f ws kinds among =
+    of_each (λ g vs. words_fit callers [] vs ≡ true → IsHeading callers g vs) ROUND_LINES (form_word f) f ws among kinds
+    (λ fits. round_is callers)
+    (λ zone. start_is callers (at.Zone zone))
+    (λ zone. start_is callers (at.Destroy zone))
+    (λ zone addr. start_is callers (at.Size zone addr))
+    (λ addr. start_is callers (at.Where addr))
 
 pub heading_spelled : WordLaws → (callers : ℕ) (ts : List (List ℕ)) (x : Line) → heading_in callers ts ≡ Some x → HeadingSpelled callers ts x
 heading_spelled k callers ts x h =

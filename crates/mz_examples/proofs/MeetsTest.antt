@@ -16,7 +16,7 @@ is_not_between e d x = not (nat_lt e.ticket x.ticket) || (not (nat_lt x.ticket d
 pub meets : {p : Profile} {h : List Entry} {e d : Entry} → duty_left p h e ≡ Some d.event → list_all (is_not_between e d) h ≡ true → MeetsDuty p h e d
 meets {p = p} {h = h} {e = e} {d = d} due none = record {
   duty = due;
-  first = λ x at after before.
+  at_once = λ x at after before.
       elim (or_cases (not (nat_lt e.ticket x.ticket)) _ (all_at (is_not_between e d) h x none at)) [
         | inl denied ↦ absurd (flipped (nat_lt e.ticket x.ticket) (lt-ltb e.ticket x.ticket after) denied)
         | inr rest ↦ elim (or_cases (not (nat_lt x.ticket d.ticket)) _ rest) [

@@ -84,7 +84,7 @@ module _ (L : BookLaws) (s u : Account) (q : Place) (b : Block) (l : LivesIn s q
         let next = entry_at i u.caller d in
         let meets : MeetsDuty u.profile y.seen end next = record {
           duty = left grows.adds.more grows.adds.same.profile grows.adds.seen ∙ ap (λ o. first_some (o ∷ [])) owed;
-          first = met_first L u y end next rest n q x.last lawful grows (is_plain q l.blocks).not_nano here touch other;
+          at_once = met_first L u y end next rest n q x.last lawful grows (is_plain q l.blocks).not_nano here touch other;
         } in
         let all : MeetDuties u.profile y.seen end (next ∷ rest) = (meets, met) in
         record {

@@ -150,7 +150,7 @@ module _ (L : BookLaws) (z w al : ℕ) (s : Account) (k : CanSeek s z w al) wher
           duty = subst (λ p. duty_left p h (dry_at i s.caller z w al) ≡ Some (Back (Large z) (run_of_span x).first (run_of_span x).pages)) (sym prof)
               (duty_then L M t (dry_at i s.caller z w al) h (adds.more ++ later) d.last (subst (λ p. AreLawful p opening h) prof still) (goes ∙ (ap (λ l. l ++ later) adds.seen ∙ append_assoc t.seen adds.more later))
               ∙ ap (λ o. first_some (o ∷ (known t (spot_of (Large z))).duty ∷ [])) duty_p);
-          first = λ y there after before.
+          at_once = λ y there after before.
               ⊎_elim
               (λ (f : Contains u.seen y).
               met_first L t u (dry_at i s.caller z w al) (entry_at j t.caller (Back (Large z) (run_of_span x).first (run_of_span x).pages)) [] 0 (Large z) d.last lawful since.grows refl here_l

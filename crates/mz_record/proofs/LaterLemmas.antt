@@ -86,7 +86,7 @@ module _ (L : HistoryLaws) (p : Profile) (h later : List Entry) (lawful : AreLaw
   still_meets : (e d : Entry) → e.ticket < length h → d.ticket < length h → MeetsDuty p h e d → MeetsDuty p (h ++ later) e d
   still_meets e d first second meets = record {
     duty = same_duty e first ∙ meets.duty;
-    first = λ x at after before. meets.first x (is_there x at (let low = before in omega (arith, low, second))) after before;
+    at_once = λ x at after before. meets.at_once x (is_there x at (let low = before in omega (arith, low, second))) after before;
   }
 
   still_met : (e : Entry) (ds : List Entry) → e.ticket < length h → AreBefore (length h) ds → MeetDuties p h e ds → MeetDuties p (h ++ later) e ds

@@ -16,7 +16,7 @@ IsDropped p h b (e ∷ es) = (k : Place) × (e.event ≡ End k b.first b.size) �
 -- blocks are dropped one after another
 abbrev pub DropInTurn : Profile → List Entry → List Block → List Entry → Type 0
 DropInTurn p h [] es = es ≡ []
-DropInTurn p h (b ∷ bs) es = (front : List Entry) × (back : List Entry) × (es ≡ front ++ back) × IsDropped p h b front × DropInTurn p h bs back
+DropInTurn p h (b ∷ bs) es = (mine : List Entry) × (rest : List Entry) × (es ≡ mine ++ rest) × IsDropped p h b mine × DropInTurn p h bs rest
 
 -- one entry says that the block isn't one of zone z
 abbrev pub IsNotOfZone : ℕ → Block → List Entry → Type 0

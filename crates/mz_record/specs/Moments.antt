@@ -26,12 +26,12 @@ first_some (Some d ∷ os) = Some d
 abbrev pub duty_left : Profile → List Entry → Entry → Option Event
 duty_left p h e = let s = after_entry p (state_before p h e.ticket) e in first_some (map (λ j. (value_at s j).duty) (touched p e.event))
 
--- The entry d meets the duty that the entry e leaves: it is the first after e that is this event.
-pub record MeetsDuty (p : Profile) (h : List Entry) (e d : Entry) : Type 0 where
-  pub duty : duty_left p h e ≡ Some d.event
-  pub first : (x : Entry) → Contains h x → e.ticket < x.ticket → x.ticket < d.ticket → IsTrue (not (is_that d.event x.event))
+-- The second entry meets the duty that the first leaves: it is the first one behind it that is this event.
+pub record MeetsDuty (p : Profile) (h : List Entry) (e met : Entry) : Type 0 where
+  pub duty : duty_left p h e ≡ Some met.event
+  pub at_once : (x : Entry) → Contains h x → e.ticket < x.ticket → x.ticket < met.ticket → IsTrue (not (is_that met.event x.event))
 
 -- each entry leaves a duty that the next one meets, and the last leaves none
 abbrev pub MeetDuties : Profile → List Entry → Entry → List Entry → Type 0
 MeetDuties p h e [] = duty_left p h e ≡ None
-MeetDuties p h e (d ∷ ds) = MeetsDuty p h e d × MeetDuties p h d ds
+MeetDuties p h e (met ∷ es) = MeetsDuty p h e met × MeetDuties p h met es

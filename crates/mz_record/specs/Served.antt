@@ -56,16 +56,16 @@ IsForLarge q = route_of q.bytes ≡ range.Large
 abbrev pub events : List Entry → List Event
 events es = map (λ e. e.event) es
 
--- pages have no run of w pages at al, and so the oldest cached run of the zone goes back; as often as that happens
+-- pages have no run of w pages at al, and so the oldest cached run of the zone is given back; as often as that happens
 abbrev pub AreFlushes : Profile → List Entry → ℕ → ℕ → ℕ → List Entry → Type 0
 AreFlushes p h z w al [] = Unit {0}
-AreFlushes p h z w al (d ∷ []) = ⊥
-AreFlushes p h z w al (d ∷ b ∷ es) = (d.event ≡ Dry z w al) × MeetsDuty p h d b × AreFlushes p h z w al es
+AreFlushes p h z w al (dry ∷ []) = ⊥
+AreFlushes p h z w al (dry ∷ given ∷ es) = (dry.event ≡ Dry z w al) × MeetsDuty p h dry given × AreFlushes p h z w al es
 
 -- pages have no run of w pages at al, and no run of the zone is cached
-pub record IsLastDry (p : Profile) (h : List Entry) (z w al : ℕ) (d : Entry) : Type 0 where
-  pub event : d.event ≡ Dry z w al
-  pub no_duty : duty_left p h d ≡ None
+pub record IsLastDry (p : Profile) (h : List Entry) (z w al : ℕ) (dry : Entry) : Type 0 where
+  pub event : dry.event ≡ Dry z w al
+  pub no_duty : duty_left p h dry ≡ None
 
 -- The entries es of the history h serve the request with this block, or with none, in one of eight ways. The first five
 -- are those of tiny and small requests, the others those of large ones.
@@ -83,14 +83,14 @@ pub data IsServed (p : Profile) (h : List Entry) (q : Request) (es : List Entry)
       → events es ≡ Full r.magazine (size_for q) q.align ∷ Move f (depot_of r.magazine) r.magazine ∷ New r.magazine a (size_for q) q.align ∷ []
       → got ≡ Some (block_at a (size_for q)) → IsServed p h q es got
   by_fresh_region :
-      (r : Regional) (a f : ℕ) (front flushes back : List Entry) → regional_for p q ≡ Some r → es ≡ front ++ flushes ++ back
-      → events front ≡ Full r.magazine (size_for q) q.align ∷ Full (depot_of r.magazine) (size_for q) q.align ∷ []
+      (r : Regional) (a f : ℕ) (fulls flushes rest : List Entry) → regional_for p q ≡ Some r → es ≡ fulls ++ flushes ++ rest
+      → events fulls ≡ Full r.magazine (size_for q) q.align ∷ Full (depot_of r.magazine) (size_for q) q.align ∷ []
       → AreFlushes p h q.zone r.pages r.pages flushes
-      → events back ≡ Take r.magazine f r.pages ∷ New r.magazine a (size_for q) q.align ∷ []
+      → events rest ≡ Take r.magazine f r.pages ∷ New r.magazine a (size_for q) q.align ∷ []
       → got ≡ Some (block_at a (size_for q)) → IsServed p h q es got
   null_in_range :
-      (r : Regional) (front flushes : List Entry) (last : Entry) → regional_for p q ≡ Some r → es ≡ front ++ flushes ++ last ∷ []
-      → events front ≡ Full r.magazine (size_for q) q.align ∷ Full (depot_of r.magazine) (size_for q) q.align ∷ []
+      (r : Regional) (fulls flushes : List Entry) (last : Entry) → regional_for p q ≡ Some r → es ≡ fulls ++ flushes ++ last ∷ []
+      → events fulls ≡ Full r.magazine (size_for q) q.align ∷ Full (depot_of r.magazine) (size_for q) q.align ∷ []
       → AreFlushes p h q.zone r.pages r.pages flushes
       → IsLastDry p h q.zone r.pages r.pages last
       → got ≡ None → IsServed p h q es got
@@ -99,14 +99,14 @@ pub data IsServed (p : Profile) (h : List Entry) (q : Request) (es : List Entry)
       → best_fit (kept_at (state_before p h e.ticket) (spot_of (Large q.zone))).cached (units_of q.bytes) ≡ Some (run_of (block_at a s))
       → got ≡ Some (block_at a s) → IsServed p h q es got
   by_fresh_run :
-      (f : ℕ) (first : Entry) (flushes back : List Entry) → IsForLarge q → es ≡ first ∷ flushes ++ back
-      → first.event ≡ Full (Large q.zone) (units_of q.bytes) 1
+      (f : ℕ) (full : Entry) (flushes rest : List Entry) → IsForLarge q → es ≡ full ∷ flushes ++ rest
+      → full.event ≡ Full (Large q.zone) (units_of q.bytes) 1
       → AreFlushes p h q.zone (units_of q.bytes) 1 flushes
-      → events back ≡ Take (Large q.zone) f (units_of q.bytes) ∷ New (Large q.zone) (f * PAGE) (size_for q) q.align ∷ []
+      → events rest ≡ Take (Large q.zone) f (units_of q.bytes) ∷ New (Large q.zone) (f * PAGE) (size_for q) q.align ∷ []
       → got ≡ Some (block_at (f * PAGE) (size_for q)) → IsServed p h q es got
   null_in_large :
-      (first last : Entry) (flushes : List Entry) → IsForLarge q → es ≡ first ∷ flushes ++ last ∷ []
-      → first.event ≡ Full (Large q.zone) (units_of q.bytes) 1
+      (full last : Entry) (flushes : List Entry) → IsForLarge q → es ≡ full ∷ flushes ++ last ∷ []
+      → full.event ≡ Full (Large q.zone) (units_of q.bytes) 1
       → AreFlushes p h q.zone (units_of q.bytes) 1 flushes
       → IsLastDry p h q.zone (units_of q.bytes) 1 last
       → got ≡ None → IsServed p h q es got
@@ -141,7 +141,7 @@ abbrev pub ServeInTurn : Profile → List Entry → Request → ℕ → List Ent
 ServeInTurn p h q zero es = es ≡ []
 ServeInTurn p h q (suc k) es =
     Serves p h q es None
-    ⊎ ((front : List Entry) × (back : List Entry) × (b : Block) × (es ≡ front ++ back) × Serves p h q front (Some b) × ServeInTurn p h q k back)
+    ⊎ ((mine : List Entry) × (rest : List Entry) × (b : Block) × (es ≡ mine ++ rest) × Serves p h q mine (Some b) × ServeInTurn p h q k rest)
 
 -- the block that an event makes, or that it changes to another size
 abbrev pub block_made : Event → Option Block

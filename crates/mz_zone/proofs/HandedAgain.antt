@@ -15,6 +15,7 @@ use Rattle.mz_events.specs.Hands.{hand_after, hand_through}
 use Rattle.mz_record.specs.Served.{events}
 use Rattle.mz_record.specs.Resized.{Resize, IsResized, same_size, in_place, still_large, IsMoved, moved, not_moved}
 use Rattle.mz_book.specs.Account.{hand}
+use Rattle.mz_rack.specs.Resizing.{resize_at}
 use Rattle.mz_zone.specs.declared.fault.ReallocFault.{ReallocFault}
 use Rattle.mz_zone.specs.Blocks.{BlockView, block_of}
 use Rattle.mz_zone.specs.Calling.{AtView, IsHandedIn, HasSlot}

@@ -203,7 +203,7 @@ module _ (laws : ZoneLaws) (v u w : AtView) (z n : ℕ) (b c : BlockView) (hande
   both : Goes v (made.mine ++ freed.mine) w
   both = goes_on laws v u w made.mine freed.mine made.goes freed.goes
 
-  request : Request
+  abbrev request : Request
   request = moving_request (resize_now v.book z (block_of b) n)
 
   still_serves : Serves v.book.profile w.book.seen request made.mine (Some (block_of c))

@@ -10,7 +10,7 @@ use Rattle.mz_nano.specs.Deals.{hands_of, hand_at, moved, dealt, CanDeal}
 use Rattle.mz_nano.proofs.CountLemmas.{index_in}
 use Rattle.mz_nano.proofs.DealLemmas.{map_length}
 use Rattle.mz_nano.proofs.AllLemmas.{new_all, all_set, can_one, hand_there, moved_there}
-use Rattle.mz_nano.proofs.tests.nano_dealt.Goals as goal
+use Rattle.mz_threads_tests.proofs.nano.nano_dealt.Goals as goal
 
 pub deal-requires-clause-all : goal.deal-requires-clause-all
 deal-requires-clause-all g c =

@@ -2,7 +2,7 @@ use Rattle.std.proofs.Common.{◌≡◌}
 use Rattle.mz_nano.specs.Lists.{In}
 use Rattle.mz_nano.specs.Rule.{held}
 use Rattle.mz_nano.specs.SeatLists.{SitsAt, space_of, first_of, hand_of}
-use Rattle.mz_nano.proofs.tests.put_back.Given as goal
+use Rattle.mz_threads_tests.proofs.nano.put_back.Given as goal
 
 abbrev pub invariant-loop : goal.invariant-loop
 invariant-loop l = record {

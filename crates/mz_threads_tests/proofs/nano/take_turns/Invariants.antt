@@ -1,5 +1,5 @@
 use Rattle.mz_nano.specs.SeatLists.{SitsAt}
-use Rattle.mz_nano.proofs.tests.take_turns.Given as goal
+use Rattle.mz_threads_tests.proofs.nano.take_turns.Given as goal
 
 abbrev pub invariant-loop : goal.invariant-loop
 invariant-loop l = record {

@@ -1,7 +1,7 @@
 use Rattle.std.proofs.Common.{ap, ◌<◌, subst, sym, arith}
 use Rattle.mz_book.specs.Account.{Account}
-use Rattle.mz_register.proofs.ToyLemmas.{may_at_first}
-use Rattle.mz_register.proofs.tests.a_client_of_any_book_notes_at_a_plain_book.Goals as goal
+use Rattle.mz_threads_tests.proofs.FullCalls.{may_at_first}
+use Rattle.mz_threads_tests.proofs.register.a_client_of_any_book_notes_at_a_plain_book.Goals as goal
 
 pub note_full_often-requires : goal.note_full_often-requires
 note_full_often-requires g c =

@@ -1,12 +1,12 @@
 use denote.Param.Send.{IsSend, IsSync, sendable, param_send}
 use Rattle.std.proofs.Crossing.{crosses}
-use Rattle.mz_register.specs.contracts.tests.toy.Toy as Toy
-use Rattle.mz_register.specs.contracts.tests.toy.ToyKeep.TheImpl as impl
+use Rattle.mz_threads_tests.specs.contracts.toy.Toy as Toy
+use Rattle.mz_threads_tests.specs.contracts.toy.ToyKeep.TheImpl as impl
 use Rattle.mz_register.specs.contracts.register.Register as Register
 use Rattle.mz_register.specs.contracts.pass.Pass as Pass
-use Rattle.mz_register.proofs.Crosses.{register_sync, pass_send}
-use Rattle.mz_register.proofs.tests.note_both.Lts.{arg-0-1}
-use Rattle.mz_register.proofs.tests.note_both.Goals as goal
+use Rattle.mz_threads_tests.proofs.Crosses.{register_sync, pass_send}
+use Rattle.mz_threads_tests.proofs.register.note_both.Lts.{arg-0-1}
+use Rattle.mz_threads_tests.proofs.register.note_both.Goals as goal
 
 toy : IsSend Toy.the_row
 toy = search sendable depth 20

@@ -3,15 +3,15 @@ use Rattle.mz_book.specs.Account.{Account}
 use Rattle.mz_book.specs.Plain.{opening_account}
 use Rattle.mz_register.specs.Accounts.{pass_account}
 use Rattle.mz_register.specs.Opened.{IsOpened}
-use Rattle.mz_register.specs.Toys.{toy_profile, toy_site}
-use Rattle.mz_register.proofs.ToyLemmas.{ready, two_taken}
-use Rattle.mz_register.proofs.tests.opened.Goals as goal
+use Rattle.mz_threads_tests.specs.Toys.{toy_profile, toy_site}
+use Rattle.mz_threads_tests.proofs.TwoPasses.{ready, two_taken}
+use Rattle.mz_threads_tests.proofs.register.opened.Goals as goal
 
 pub returns : goal.returns
 returns c =
     let r = c.in-Ok.register in
     let passes = c.in-Ok.passes.items in
-    let p = toy_profile c.args.nano in
+    let p = toy_profile in
     let o : IsOpened (opening_account p toy_site) r.table.shared.table_id r.opening.profile passes = subst (λ (a : Account). IsOpened a r.table.shared.table_id r.opening.profile passes) c.in_ok-book_of_toys.ensures c.in-Ok.ensures.ok in
     let first = c.in-Some-pop.first in
     let second = c.in-Some.second in

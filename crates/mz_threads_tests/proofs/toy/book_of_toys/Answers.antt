@@ -1,9 +1,9 @@
 use Rattle.std.proofs.Common.{map, ap, sym, subst, ◌∙◌}
 use Rattle.mz_base.specs.Limits.{IsWithinLimits}
-use Rattle.mz_book.specs.Toys.{toy, toy_profile}
+use Rattle.mz_threads_tests.specs.Toys.{toy, toy_profile}
 use Rattle.mz_book.specs.Plain.{StandAtFirst}
-use Rattle.mz_book.proofs.ToyLemmas.{toys_stand, toy_limits, keeping_is}
-use Rattle.mz_book.proofs.tests.book_of_toys.Goals as goal
+use Rattle.mz_threads_tests.proofs.ToyLemmas.{toys_stand, toy_limits, keeping_is}
+use Rattle.mz_threads_tests.proofs.toy.book_of_toys.Goals as goal
 
 pub new-requires-clause-limits : goal.new-requires-clause-limits
 new-requires-clause-limits c = subst IsWithinLimits (sym c.profile-p.ensures) toy_limits

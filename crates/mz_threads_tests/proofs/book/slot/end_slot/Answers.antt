@@ -1,6 +1,6 @@
 use Rattle.std.proofs.Common.{◌≡◌, ◌-◌}
-use Rattle.mz_book.proofs.ToySlotLemmas.{with_refusal, with_end, refused, live_taken, may_end, ended, may_unlight_idle, put_out}
-use Rattle.mz_book.proofs.tests.slot.end_slot.Goals as goal
+use Rattle.mz_threads_tests.proofs.SlotCalls.{with_refusal, with_end, refused, live_taken, may_end, ended, may_unlight_idle, put_out}
+use Rattle.mz_threads_tests.proofs.book.slot.end_slot.Goals as goal
 
 pub note-ticket-requires : goal.note-ticket-requires
 note-ticket-requires g c =

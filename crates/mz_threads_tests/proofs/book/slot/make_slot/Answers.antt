@@ -1,6 +1,6 @@
 use Rattle.std.proofs.Common.{◌≡◌, ◌-◌}
-use Rattle.mz_book.proofs.ToySlotLemmas.{with_class, with_found, with_block, first_settles, second_finds, light_answers, light_taken, may_make, made, may_unlight, unlit}
-use Rattle.mz_book.proofs.tests.slot.make_slot.Goals as goal
+use Rattle.mz_threads_tests.proofs.SlotCalls.{with_class, with_found, with_block, first_settles, second_finds, light_answers, light_taken, may_make, made, may_unlight, unlit}
+use Rattle.mz_threads_tests.proofs.book.slot.make_slot.Goals as goal
 
 pub unreachable-requires-in_default-hold_light : goal.unreachable-requires-in_default-hold_light
 unreachable-requires-in_default-hold_light g c =

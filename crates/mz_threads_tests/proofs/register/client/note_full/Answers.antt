@@ -1,7 +1,7 @@
 use Rattle.mz_book.specs.Account.{state_of}
-use Rattle.mz_register.specs.Toys.{large_is_full}
-use Rattle.mz_register.proofs.ToyLemmas.{can_hold, can_note, reads_large, can_release, stands_again, was_full}
-use Rattle.mz_register.proofs.tests.client.note_full.Goals as goal
+use Rattle.mz_threads_tests.specs.Toys.{large_is_full}
+use Rattle.mz_threads_tests.proofs.FullCalls.{can_hold, can_note, reads_large, can_release, stands_again, was_full}
+use Rattle.mz_threads_tests.proofs.register.client.note_full.Goals as goal
 
 pub hold-large-requires : goal.hold-large-requires
 hold-large-requires g c = can_hold (g.B.Book.account c.args.book.now) c.requires

@@ -1,5 +1,5 @@
-use Rattle.mz_register.proofs.ToyLemmas.{were_none, were_more, may_next}
-use Rattle.mz_register.proofs.tests.client.note_full_often.Goals as goal
+use Rattle.mz_threads_tests.proofs.FullCalls.{were_none, were_more, may_next}
+use Rattle.mz_threads_tests.proofs.register.client.note_full_often.Goals as goal
 
 pub loop-init : goal.loop-init
 loop-init g c = were_none (g.B.Book.account c.args.book.now) c.requires.nothing_held

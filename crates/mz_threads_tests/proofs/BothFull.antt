@@ -1,7 +1,7 @@
 -- A client may note, at a book of toys of which nothing was asked yet, that a magazine of tiny and its depot are full.
-use Rattle.std.proofs.Common.{◌≡◌, ℕ, ◌≤◌, List, [], ◌∷◌, ◌++◌, Bool, true, false, refl, ap, sym, subst, ◌∙◌, zero, suc, arith, None}
+use Rattle.std.proofs.Common.{◌≡◌, ℕ, ◌<◌, ◌≤◌, ◌==◌, List, [], ◌∷◌, ◌++◌, Bool, true, false, refl, ap, sym, subst, ◌∙◌, zero, suc, arith, None}
 use Rattle.std.specs.Prelude.{◌||◌, ◌↔◌}
-use Rattle.std.proofs.lemmas.Bool.{false≢true}
+use Rattle.std.proofs.lemmas.Bool.{false≢true, eqb-true}
 use Rattle.mz_base.specs.declared.profile.Profile.{Profile}
 use Rattle.mz_events.specs.declared.place.Place.{Place}
 use Rattle.mz_events.specs.declared.place.Place.TheVariants.{Tiny, TinyDepot}
@@ -18,12 +18,17 @@ use Rattle.mz_events.specs.Holding.{ReadsHeld}
 use Rattle.mz_book.specs.Keepers.{keeper_count, keeper_spot, place_at, is_among, is_held}
 use Rattle.mz_book.specs.Account.{Account, state_of, known, holds_spot, entry_at}
 use Rattle.mz_book.specs.Calls.{CanNote, Notes}
+use Rattle.mz_book.specs.Plain.{opening_account, Reserves}
 use Rattle.mz_book.specs.Client.{HasTaken, MayNoteBoth}
-use Rattle.mz_threads_tests.specs.Toys.{toy_profile, tiny_full, depot_full}
+use Rattle.mz_threads_tests.specs.Toys.{toy_profile, toy_site, tiny_full, depot_full}
 
 or_none : (b : Bool) → (b || false) ≡ b
 or_none true = refl
 or_none false = refl
+
+or_elim : {P : Type 0} (a b : Bool) → (a ≡ true → P) → (b ≡ true → P) → (a || b) ≡ true → P
+or_elim true b f g h = f refl
+or_elim false b f g h = g h
 
 fits_by : (p q : Profile) (es fs : List Entry) (c d : ℕ) (e : Event) → p ≡ q → es ≡ fs → c ≡ d → Fits q (after_all q opening fs) d e → Fits p (after_all p opening es) c e
 fits_by p q es fs c d e ep ee ec h =
@@ -57,17 +62,23 @@ kept_first : (i : ℕ) → is_among (0 ∷ 1 ∷ []) i ≡ true → (value_at (a
 unfolding after_all look_up
 kept_first i y = refl
 
+among_two : (i : ℕ) → is_among (0 ∷ 1 ∷ []) i ≡ true → i < 2
+among_two i y = or_elim (0 == i) ((1 == i) || false)
+    (λ q. let z : 0 ≡ i = eqb-true 0 i q in omega arith)
+    (λ q. or_elim (1 == i) false (λ r. let z : 1 ≡ i = eqb-true 1 i r in omega arith) (λ r. absurd (false≢true r)) q)
+    y
+
 kept_last : (i m n : ℕ) → is_among (0 ∷ 1 ∷ []) i ≡ true → (value_at (after_all toy_profile opening (entry_at m 0 tiny_full ∷ entry_at n 0 depot_full ∷ [])) (keeper_spot toy_profile i)).kept ≡ nothing_kept
 unfolding place_at after_all after look_up write write_all
 kept_last zero m n y = refl
 kept_last (suc zero) m n y = refl
-kept_last (suc (suc i)) m n y = absurd (false≢true y)
+kept_last (suc (suc i)) m n y = let l = among_two (suc (suc i)) y in absurd (omega arith)
 
 calm_last : (i m n : ℕ) → is_among (0 ∷ 1 ∷ []) i ≡ true → (value_at (after_all toy_profile opening (entry_at m 0 tiny_full ∷ entry_at n 0 depot_full ∷ [])) (keeper_spot toy_profile i)).duty ≡ None
 unfolding place_at after_all after look_up write write_all
 calm_last zero m n y = refl
 calm_last (suc zero) m n y = refl
-calm_last (suc (suc i)) m n y = absurd (false≢true y)
+calm_last (suc (suc i)) m n y = let l = among_two (suc (suc i)) y in absurd (omega arith)
 
 -- an event that reads one place alone reads what is held
 reads_one : (spots : (j k : Spot) → (same_spot j k ≡ true) ↔ (j ≡ k)) (t : Account) (q : Place) → spot_of q ≡ keeper_at q → t.profile ≡ toy_profile → t.held ≡ 0 ∷ 1 ∷ [] → is_held toy_profile (0 ∷ 1 ∷ []) (keeper_at q) ≡ true → ReadsHeld t.profile (holds_spot t) (Full q 16 16)
@@ -145,7 +156,7 @@ module _ (fits : (p : Profile) (s : State) (c : ℕ) → FitsByEvent p s c) (spo
         still_calm : (i : ℕ) → is_among (0 ∷ 1 ∷ []) i ≡ true → (known v (keeper_spot t.profile i)).duty ≡ None
         still_calm i y = ap (λ w. w.duty) (at_last (keeper_spot t.profile i)) ∙ (ap (λ (r : Profile). (value_at (after_all toy_profile opening (entry_at m 0 tiny_full ∷ entry_at n 0 depot_full ∷ [])) (keeper_spot r i)).duty) p1 ∙ calm_last i m n y)
 
-  pub may_note_both : MayNoteBoth s 0 1 tiny_full depot_full
+  may_note_both : MayNoteBoth s 0 1 tiny_full depot_full
   may_note_both = record {
     nothing_held = held;
     order = omega arith;
@@ -157,3 +168,14 @@ module _ (fits : (p : Profile) (s : State) (c : ℕ) → FitsByEvent p s c) (spo
     kept = λ t u v m n i h k o y. same_kept t h u m k v n o i y;
     calm = λ t u v m n i h k o y. still_calm t h u m k v n o i y;
   }
+
+-- a book of which nothing was asked yet but room for two entries
+pub may_at_first : (fits : (p : Profile) (s : State) (c : ℕ) → FitsByEvent p s c) (spots : (j k : Spot) → (same_spot j k ≡ true) ↔ (j ≡ k)) (s t : Account) → s ≡ opening_account toy_profile toy_site → Reserves s 2 t → MayNoteBoth t 0 1 tiny_full depot_full
+may_at_first fits spots s t e r =
+    may_note_both fits spots t
+    (ap (λ (a : Account). a.profile) r.after ∙ ap (λ (a : Account). a.profile) e)
+    (ap (λ (a : Account). a.caller) r.after ∙ ap (λ (a : Account). a.caller) e)
+    (ap (λ (a : Account). a.between) r.after ∙ ap (λ (a : Account). a.between) e)
+    (ap (λ (a : Account). a.seen) r.after ∙ ap (λ (a : Account). a.seen) e)
+    (ap (λ (a : Account). a.held) r.after ∙ ap (λ (a : Account). a.held) e)
+    r.room

@@ -10,6 +10,19 @@ use std::test::Fail;
 
 mod slot;
 
+fn entry(ticket: u64, caller: u32, event: Event) -> Entry {
+    Entry {
+        ticket,
+        caller,
+        event,
+    }
+}
+
+// Whether these two are the whole history.
+fn are_two(history: &[Entry], first: Entry, second: Entry) -> bool {
+    history == [first, second].as_slice()
+}
+
 #[test]
 fn a_client_of_any_book_notes_two_events(rt: HostRuntime) -> Result<(), Fail> {
     when_an_event_fits();
@@ -28,22 +41,9 @@ fn a_client_of_any_book_notes_two_events(rt: HostRuntime) -> Result<(), Fail> {
     };
     let tickets = note_both(&rt, &mut book, 0, 1, first, second);
     assert_eq!(rt; tickets, (0, 1));
-    assert_eq!(rt;
-        book.history(),
-        [
-            Entry {
-                ticket: 0,
-                caller: 0,
-                event: first
-            },
-            Entry {
-                ticket: 1,
-                caller: 0,
-                event: second
-            },
-        ]
-        .as_slice()
-    );
+    let first = entry(0, 0, first);
+    let second = entry(1, 0, second);
+    assert!(rt; are_two(book.history(), first, second));
     Ok(())
 }
 
@@ -57,30 +57,11 @@ fn hands_and_words_go_with_the_entries(rt: HostRuntime) -> Result<(), Fail> {
     book.give(0, 1, 49_344);
     assert_eq!(rt; end_slot(&mut book), (1, 1));
     assert_eq!(rt; words(&book), (4, 0));
-    assert_eq!(rt;
-        book.history(),
-        [
-            Entry {
-                ticket: 0,
-                caller: 0,
-                event: Event::New {
-                    k: Place::Nano,
-                    a: 49_344,
-                    s: 64,
-                    al: 16
-                }
-            },
-            Entry {
-                ticket: 1,
-                caller: 1,
-                event: Event::End {
-                    k: Place::Nano,
-                    a: 49_344,
-                    s: 64
-                }
-            },
-        ]
-        .as_slice()
-    );
+    let k = Place::Nano;
+    let a = 49_344;
+    let s = 64;
+    let made = entry(0, 0, Event::New { k, a, s, al: 16 });
+    let ended = entry(1, 1, Event::End { k, a, s });
+    assert!(rt; are_two(book.history(), made, ended));
     Ok(())
 }

@@ -66,10 +66,9 @@ fn are_all(history: &[Entry]) -> bool {
     let in_order = history
         .iter()
         .enumerate()
-        .all(|(i, e)| e.ticket == i as u64);
+        .all(|(i, e)| e.ticket == i as u64 && e.caller < 2);
     let first = history.iter().filter(|e| e.caller == 0).count();
-    let second = history.iter().filter(|e| e.caller == 1).count();
-    in_order && history.len() == 2000 && first == 1000 && second == 1000
+    in_order && history.len() == 2000 && first == 1000
 }
 
 fn note_both<R: Threads + Wait + Sync>(

@@ -1,4 +1,6 @@
 //! Sources and sinks in memory and over std, and the faults that they count.
+ghost use Rattle.std.specs.Prelude.{◌≤◌};
+
 use mz_io::{
     Failed, FixedSink, Gate, MemSink, MemSource, OpenGate, Sink, Source, StdSink, StdSource,
     SureSource, write_all,
@@ -9,10 +11,12 @@ use std::test::Fail;
 
 const UNTOUCHED: u8 = b'.';
 
-// Reads once into four bytes and says what came, through the trait alone.
-fn read_once<S: Source>(source: &mut S) -> (Option<usize>, [u8; 4]) {
+// Reads once into the first of four bytes and says what came, through the trait alone.
+fn read_once<S: Source>(source: &mut S, room: usize) -> (Option<usize>, [u8; 4])
+    requires { room ≤ 4 }
+{
     let mut buf = [UNTOUCHED; 4];
-    let count = source.read(&mut buf).ok();
+    let count = source.read(&mut buf[..room]).ok();
     (count, buf)
 }
 
@@ -22,7 +26,7 @@ fn write_once<K: Sink>(sink: &mut K, piece: &[u8]) -> Option<usize> {
 }
 
 // Writes a piece and then none, and says each time how much was taken and how many calls have failed.
-fn write_twice<W: Write>(writer: W, piece: &[u8]) -> [(Option<usize>, u64); 2] {
+fn write_twice<W: Write + Drop>(writer: W, piece: &[u8]) -> [(Option<usize>, u64); 2] {
     let mut sink = StdSink::new(writer);
     let first = write_once(&mut sink, piece);
     let faults = sink.faults();
@@ -90,7 +94,7 @@ fn a_mem_source_gives_little_and_fails_where_it_is_told_to(rt: HostRuntime) -> R
         (Some(0), *b"...."),
     ];
     for row in rows {
-        assert_eq!(rt; read_once(&mut source), row);
+        assert_eq!(rt; read_once(&mut source, 4), row);
     }
     assert_eq!(rt; source.faults(), 1);
     Ok(())
@@ -122,11 +126,11 @@ fn a_mem_sink_keeps_what_it_has_room_for(rt: HostRuntime) -> Result<(), Fail> {
 fn a_sure_source_gives_all_that_there_is_room_for(rt: HostRuntime) -> Result<(), Fail> {
     let mut source = SureSource::new(b"hello".to_vec(rt.alloc())?);
     for row in [
-        (Some(4), *b"hell"),
-        (Some(1), *b"o..."),
+        (Some(3), *b"hel."),
+        (Some(2), *b"lo.."),
         (Some(0), *b"...."),
     ] {
-        assert_eq!(rt; read_once(&mut source), row);
+        assert_eq!(rt; read_once(&mut source, 3), row);
     }
     Ok(())
 }
@@ -147,11 +151,11 @@ fn a_fixed_sink_takes_all_and_keeps_the_first(rt: HostRuntime) {
 fn a_std_source_gives_what_its_reader_gives(rt: HostRuntime) {
     let mut source = StdSource::new(b"hi".as_slice());
     for row in [(Some(2), *b"hi.."), (Some(0), *b"....")] {
-        assert_eq!(rt; (read_once(&mut source), source.faults()), (row, 0));
+        assert_eq!(rt; (read_once(&mut source, 3), source.faults()), (row, 0));
     }
     let mut broken = StdSource::new(Broken);
     assert_eq!(rt;
-        (read_once(&mut broken), broken.faults()),
+        (read_once(&mut broken, 3), broken.faults()),
         ((None, *b"...."), 1)
     );
 }

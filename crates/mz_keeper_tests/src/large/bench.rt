@@ -80,10 +80,13 @@ impl Bench {
         }
     }
 
-    // A span that isn't taken is left with large's caller, so that its block is live and counted.
+    // A block whose span isn't taken stays live, and is counted.
     fn free_last(&mut self) -> Option<(u64, u64)> {
         let span = self.spans.pop()?;
-        pages_of(self.large.free(span).ok()?)
+        match self.large.free(span) {
+            Ok(out) => pages_of(out),
+            Err(_) => None,
+        }
     }
 }
 

@@ -219,6 +219,9 @@ module _ (leaves : Leaves) (one : One) (none : Nothing) (s t u : Account) (n : �
 
 -- requests can be made in both zones
 
+pub as_tested : (r : Account) (p : Profile) (x : Site) → r ≡ opening_account p x → p ≡ two_zones → r ≡ opening_account two_zones x
+as_tested r p x is same = is ∙ ap (λ (q : Profile). opening_account q x) same
+
 pub holds_none : (s t : Account) (x : Site) → s ≡ opening_account two_zones x → Reserves s 1 t → HoldsFirst t 0
 holds_none s t x is more = record {
   profile = ap (λ (a : Account). a.profile) more.after ∙ ap (λ (a : Account). a.profile) is;

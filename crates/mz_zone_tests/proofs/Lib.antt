@@ -1,0 +1,5 @@
+mod Tested
+mod BackInHand
+mod TwoZones
+mod Asked
+mod StillMine

@@ -1,5 +1,5 @@
-mod Tested
-mod BackInHand
-mod TwoZones
-mod Asked
-mod StillMine
+pub mod Tested
+pub mod BackInHand
+pub mod TwoZones
+pub mod Asked
+pub mod StillMine

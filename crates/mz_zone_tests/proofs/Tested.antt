@@ -1,39 +1,26 @@
 -- What the tests rest on: after a step another one can be done, and a block that was made can be handed in.
 use Rattle.std.proofs.Common.{◌≡◌, ℕ, ◌+◌, ◌-◌, ◌*◌, ◌<◌, ◌≤◌, true, List, [], ◌∷◌, ◌++◌, Option, None, Some, length, refl, ap, sym, subst, ◌∙◌, arith}
-use Rattle.std.specs.Prelude.{Ok, Err, IfSome, replicate}
-use Rattle.std.specs.Borrow.{Bor, MutBor}
+use Rattle.std.specs.Prelude.{Result, Ok, Err, IfSome, replicate}
 use Rattle.std.proofs.lemmas.List.{length-replicate}
 use Rattle.std.proofs.lemmas.Bool.{or_left, or_right, eq-eqb}
 use Rattle.mz_base.specs.declared.profile.Profile.{Profile}
-use Rattle.mz_base.specs.declared.range.TheConstants.{PAGE}
-use Rattle.mz_base.specs.Limits.{IsWithinLimits, IsFrom}
-use Rattle.mz_base.specs.Site.{Site}
 use Rattle.mz_base.specs.Space.{Block, block_at, same_block}
 use Rattle.mz_base.specs.Lists.{has_block}
 use Rattle.mz_events.specs.declared.entry.Entry.{Entry}
 use Rattle.mz_events.specs.Hands.{own, hand_through}
-use Rattle.mz_events.specs.Places.{nano_start}
-use Rattle.mz_events.specs.State.{is_open, opening}
-use Rattle.mz_events.specs.History.{after_all}
 use Rattle.mz_book.specs.Account.{Account, hand}
+use Rattle.mz_book.specs.declared.light.Found.{Found}
+use Rattle.mz_book.specs.Calls.{Settles}
 use Rattle.mz_book.specs.Pairs.{hand_among}
-use Rattle.mz_book.specs.Plain.{Reserves, ActsAs, opening_account}
+use Rattle.mz_book.specs.Plain.{Reserves, ActsAs}
 use Rattle.mz_nano.specs.declared.nano.Nano.{Nano}
 use Rattle.mz_nano.specs.declared.seat.NanoSeat.{NanoSeat}
-use Rattle.mz_nano.specs.SeatLists.{AllNew, SitsAt, first_of, blocks_of, space_of, hand_of}
-use Rattle.mz_nano.specs.SlotViews.{SlotView}
-use Rattle.mz_nano.specs.Lists.{In}
+use Rattle.mz_nano.specs.SeatLists.{AllNew, SitsAt}
 use Rattle.mz_rack.specs.Serving.{CanServe}
 use Rattle.mz_zone.specs.declared.zone.Zone.{Zone}
-use Rattle.mz_zone.specs.Blocks.{BlockView, of_slot, block_of, with_block_bytes}
-use Rattle.mz_zone.specs.Calling.{AtView, Seated, CanCall, Goes, IsHandedIn, IsSeatedAt, seated, with_seat}
-use Rattle.mz_zone.specs.Making.{IsPutBack, held_of}
-use Rattle.mz_zone.specs.Answering.{Answers, Callocs, Memaligns}
-use Rattle.mz_zone.specs.declared.fault.CallocFault.{CallocFault}
-use Rattle.mz_zone.specs.declared.fault.CallocFault.TheVariants as calloc
-use Rattle.mz_zone.specs.declared.fault.AlignFault.{AlignFault}
-use Rattle.mz_zone.specs.declared.fault.AlignFault.TheVariants as align
-use Rattle.mz_zone.proofs.Going.{goes_nowhere}
+use Rattle.mz_zone.specs.Blocks.{BlockView, block_of, with_block_bytes}
+use Rattle.mz_zone.specs.Calling.{AtView, Seated, CanCall, Goes, IsHandedIn, IsSeatedAt, with_seat}
+use Rattle.mz_zone.specs.Answering.{Answers}
 use Rattle.mz_zone_tests.specs.Tested.{HandLaws, IsReady, IsOpening}
 use Rattle.mz_zone.proofs.Clearing.{whole_front}
 use Rattle.mz_zone.proofs.Moved.{can_then}
@@ -192,3 +179,7 @@ ready_settled v t p n ready opened = record { each = λ z below. there z (ready.
       });
       nano = subst (λ u. IsSeatedAt u v.nano) (sym opened.after) (by_seat v.nano can.nano);
     }
+
+pub settled_so : (s t : Account) (b class : ℕ) (r : Result (Unit {0}) Found) → Settles s b class r t → IsOpening s t
+settled_so s t b class (Ok u) x = record { after = subst (λ (u : Account). u ≡ record s { settled = u.settled; founds = u.founds; found = u.found }) (sym x.after) refl }
+settled_so s t b class (Err f) x = record { after = subst (λ (u : Account). u ≡ record s { settled = u.settled; founds = u.founds; found = u.found }) (sym x.after) refl }

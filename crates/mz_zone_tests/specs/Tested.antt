@@ -15,7 +15,7 @@ use Rattle.mz_zone.specs.declared.fault.ReallocFault.TheVariants.{NotLive, Null}
 use Rattle.mz_zone.specs.declared.fault.SizeFault.{SizeFault}
 use Rattle.mz_zone.specs.declared.fault.SizeFault.TheVariants as size
 use Rattle.mz_zone.specs.Blocks.{BlockView}
-use Rattle.mz_zone.specs.Calling.{AtView, CanCall, IsHandedIn}
+use Rattle.mz_zone.specs.Calling.{AtView, Seated, CanCall, IsHandedIn}
 
 -- what calls make of a hand
 pub record HandLaws : Type 0 where
@@ -39,6 +39,10 @@ block_in (Null b e) = b
 abbrev pub size_block_in : SizeFault → BlockView
 size_block_in (size.NotLive e) = e.block
 size_block_in (size.WrongSize b held) = b
+
+-- what a call is made with, by what the book's account is
+abbrev pub at_book : Account → Option Seated → AtView
+at_book s nano = record { book = s; nano = nano }
 
 -- what is known of nano's classes may differ, and nothing else
 pub record IsOpening (s t : Account) : Type 0 where

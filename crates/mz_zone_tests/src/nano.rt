@@ -1,10 +1,10 @@
 //! Two seats of one nano, and a slot that can't be a block.
-ghost use Rattle.std.specs.Prelude.{◌≡◌, ◌<◌, ◌≤◌, IfOk};
+ghost use Rattle.std.specs.Prelude.{◌≡◌, ◌<◌, ◌≤◌, Option, IfOk};
 ghost use Rattle.mz_nano.specs.SeatLists.{SitsAt};
 ghost use Rattle.mz_book.specs.Account.{HoldsNothing};
-ghost use Rattle.mz_events.specs.Hands.{own};
-ghost use Rattle.mz_zone.specs.Calling.{seen, with_seat, KeepsReferences};
-ghost use Rattle.mz_zone_tests.specs.Tested.{IsReady, IsOpening};
+ghost use Rattle.mz_base.specs.declared.profile.Profile.{Profile as Limits};
+ghost use Rattle.mz_zone.specs.Calling.{seen, Seated, with_seat, KeepsReferences};
+ghost use Rattle.mz_zone_tests.specs.Tested.{IsReady, at_book};
 
 use crate::setting::{
     end, full, new, noted, of_hands, profile, setting, take, tiny, tiny_depot,
@@ -120,7 +120,8 @@ fn take_turns<R: Wait>(
 #[test]
 fn two_seats_in_turn(rt: HostRuntime) -> Result<(), Fail> {
     let (mut book, nano, mut first, mut second) = setting(&rt, rt.alloc())?;
-    let zone = Zone::new(rt.alloc(), &profile(), 0)?;
+    let p = profile();
+    let zone = Zone::new(rt.alloc(), &p, 0)?;
     let came = take_turns(&rt, &zone, &mut book, &nano, &mut first, &mut second)?;
     let right = [4_194_304, 4_194_304, 4_194_368, 4_194_432];
     assert_eq!(rt; came, right.map(Some));
@@ -141,14 +142,12 @@ fn two_seats_in_turn(rt: HostRuntime) -> Result<(), Fail> {
     Ok(())
 }
 
-// Another caller gives nano's first page the class 5.
+// Another caller gives nano's first page the class 5. Calls can be made by caller 0 then, as they could be before.
 fn settle_first(book: &mut PlainBook<Keeper>)
     requires pages { 1 ≤ (⟦<PlainBook<Keeper> as Book<Keeper>>⟧.account book.old).profile.nano }
     requires callers { 2 ≤ (⟦<PlainBook<Keeper> as Book<Keeper>>⟧.account book.old).profile.callers }
-    requires caller { (⟦<PlainBook<Keeper> as Book<Keeper>>⟧.account book.old).caller ≡ 0 }
-    requires noted { (⟦<PlainBook<Keeper> as Book<Keeper>>⟧.account book.old).noted ≡ own 0 (⟦<PlainBook<Keeper> as Book<Keeper>>⟧.account book.old).seen }
     requires nothing_held { HoldsNothing (⟦<PlainBook<Keeper> as Book<Keeper>>⟧.account book.old) }
-    ensures { IsOpening (⟦<PlainBook<Keeper> as Book<Keeper>>⟧.account book.old) (⟦<PlainBook<Keeper> as Book<Keeper>>⟧.account book.new) }
+    ensures { (nano : Option Seated) (p : Limits) → IsReady (at_book (⟦<PlainBook<Keeper> as Book<Keeper>>⟧.account book.old) nano) p 0 → IsReady (at_book (⟦<PlainBook<Keeper> as Book<Keeper>>⟧.account book.new) nano) p 0 }
 {
     book.act_as(1);
     let _ = book.settle(0, 5);
@@ -178,11 +177,13 @@ fn a_slot_of_another_class_goes_back(rt: HostRuntime) -> Result<(), Fail> {
     ];
     let (mut book, nano, mut seat, _second) = setting(&rt, rt.alloc())?;
     settle_first(&mut book);
-    let first = Zone::new(rt.alloc(), &profile(), 0)?;
-    let second = Zone::new(rt.alloc(), &profile(), 1)?;
+    let p = profile();
+    let first = Zone::new(rt.alloc(), &p, 0)?;
+    let second = Zone::new(rt.alloc(), &p, 1)?;
+    let there = Some((&nano, &mut seat));
     let mut at = At {
         book: &mut book,
-        nano: Some((&nano, &mut seat)),
+        nano: there,
     };
     let each = go_on(&rt, rt.alloc(), &first, &second, &mut at, &steps)?;
     assert!(rt; each);

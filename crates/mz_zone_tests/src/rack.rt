@@ -40,7 +40,7 @@ fn ask<R: Wait>(
 ) -> Result<Result<Lot, Null>, AllocError>
     requires can { CanServe (⟦<PlainBook<Keeper> as Book<Keeper>>⟧.account book.old) rack.now.profile rack.now.zone 0 }
     requires caller { caller < rack.now.profile.callers }
-    ensures { (p : Limits) (z : ℕ) → CanServe (⟦<PlainBook<Keeper> as Book<Keeper>>⟧.account book.old) p z 0 → CanServe (⟦<PlainBook<Keeper> as Book<Keeper>>⟧.account book.new) p z 0 }
+    ensures { IfOk result (λ r. (p : Limits) (z : ℕ) → CanServe (⟦<PlainBook<Keeper> as Book<Keeper>>⟧.account book.old) p z 0 → CanServe (⟦<PlainBook<Keeper> as Book<Keeper>>⟧.account book.new) p z 0) }
 {
     book.act_as(caller);
     book.reserve(36)?;
@@ -61,8 +61,9 @@ fn ask_both<R: Wait>(
 {
     let mut each = true;
     for caller in 0..2 {
-        each &= ask(rt, first, book, caller, 16)?.is_ok();
-        each &= ask(rt, second, book, caller, 16)?.is_ok();
+        let here = ask(rt, first, book, caller, 16)?;
+        let there = ask(rt, second, book, caller, 16)?;
+        each &= here.is_ok() && there.is_ok();
     }
     Ok(each)
 }
@@ -98,20 +99,17 @@ fn each_magazine_of_each_zone_has_its_region(rt: HostRuntime) -> Result<(), Fail
 #[test]
 fn a_null_has_the_tickets_of_its_entries(rt: HostRuntime) -> Result<(), Fail> {
     let (mut book, rack, _other) = racks(&rt, rt.alloc())?;
-    let Err(ranged) = ask(&rt, &rack, &mut book, 1, 2_000)? else {
-        return Err(Fail::new("no small region fits"));
-    };
-    let Err(large) = ask(&rt, &rack, &mut book, 1, 4_915_200)? else {
-        return Err(Fail::new("no large run fits"));
-    };
+    let ranged = ask(&rt, &rack, &mut book, 1, 2_000)?;
+    let large = ask(&rt, &rack, &mut book, 1, 4_915_200)?;
     let (magazine, depot, pages) = (1, 2, 3);
     let right = Null::Ranged {
         magazine,
         depot,
         pages,
     };
-    assert_eq!(rt; ranged, right);
-    assert_eq!(rt; large, Null::Large { cache: 4, pages: 5 });
+    assert_eq!(rt; ranged.err(), Some(right));
+    let right = Null::Large { cache: 4, pages: 5 };
+    assert_eq!(rt; large.err(), Some(right));
     let (k, n, al) = (Place::Large { zone: 0 }, 300, 1);
     let events = [
         full(Place::Small { zone: 0, mag: 1 }, 2_048),

@@ -248,15 +248,17 @@ fn free_of_size<R: Wait>(
 
 // What comes back where a block wasn't freed by its size.
 fn not_freed(fault: SizeFault, was: Mark) -> (Option<Block>, Answer)
-    ensures { IfSome result.0 (λ b. size_block_in fault ≡ b) }
+    ensures { IfSome result.0 (λ b. b ≡ size_block_in fault) }
 {
     let number = fault.number();
     match fault {
         SizeFault::NotLive(fault) => come_back(fault.block, was, number),
-        SizeFault::WrongSize { block, held } => match come_back(block, was, number) {
-            (Some(block), Answer::Refused(5)) => (Some(block), Answer::WrongSize(held)),
-            _ => (None, Answer::Spoiled),
-        },
+        SizeFault::WrongSize { block, held } => {
+            if number == 5 && is_as_marked(&block, was) {
+                return (Some(block), Answer::WrongSize(held));
+            }
+            (None, Answer::Spoiled)
+        }
     }
 }
 
@@ -408,7 +410,7 @@ pub fn go_on<R: Wait>(
     steps: &[(u32, Step, Answer)],
 ) -> Result<bool, AllocError>
     requires same { second.now.profile ≡ first.now.profile }
-    requires ready { IsReady (seen ⟦<PlainBook<Keeper> as Book<Keeper>>⟧.account at.old) first.now.profile 0 }
+    requires left { IsLeft (seen ⟦<PlainBook<Keeper> as Book<Keeper>>⟧.account at.old) first.now.profile None }
 {
     let mut held = None;
     let mut each = true;

@@ -18,9 +18,10 @@ fn makes<R: Wait>(
     let (mut book, nano, mut seat, _second) = setting(rt, alloc)?;
     let first = Zone::new(alloc, &p, 0)?;
     let second = Zone::new(alloc, &p, 1)?;
+    let there = Some((&nano, &mut seat));
     let mut at = At {
         book: &mut book,
-        nano: Some((&nano, &mut seat)),
+        nano: there,
     };
     let each = go_on(rt, alloc, &first, &second, &mut at, steps)?;
     Ok(each && noted(at.book.history(), events))
@@ -139,7 +140,8 @@ fn blocks_and_zones_go_from_thread_to_thread() {
 // The space has 258 pages, 4,227,072 bytes.
 #[test]
 fn a_good_size_fits_the_space(rt: HostRuntime) -> Result<(), Fail> {
-    let zone = Zone::new(rt.alloc(), &profile(), 1)?;
+    let p = profile();
+    let zone = Zone::new(rt.alloc(), &p, 1)?;
     assert_eq!(rt; zone.good_size(32_769), Some(49_152));
     assert_eq!(rt; zone.good_size(4_227_072), Some(4_227_072));
     assert_eq!(rt; zone.good_size(4_227_073), None);

@@ -14,8 +14,3 @@ pub returns-in-Ok-clause-others : goal.returns-in-Ok-clause-others
 returns-in-Ok-clause-others g c = λ o h.
     let laws = c.of_hands.ensures in
     still_served laws _ _ c.args.rack.now.zone c.args.n 16 _ o c.in-Ok.ensures (still_with _ _ 36 o h c.in_ok-reserve.ensures.ok)
-
-pub returns-in-Err-clause-others : goal.returns-in-Err-clause-others
-returns-in-Err-clause-others g c = λ o h.
-    let laws = c.of_hands.ensures in
-    still_served laws _ _ c.args.rack.now.zone c.args.n 16 _ o c.in-Err.ensures (still_with _ _ 36 o h c.in_ok-reserve.ensures.ok)

@@ -147,7 +147,9 @@ impl Steps {
             Err(StepFault::Unlawful { why }) => why,
             Err(StepFault::NoMemory) => return Err(StepFault::NoMemory),
         };
-        self.list.push(e)?;
+        if self.list.push(e).is_err() {
+            return Err(StepFault::NoMemory);
+        }
         let agrees = self.is_audited(alloc, p, ticket, why)?;
         if why == 0 {
             step(&mut self.twin, &e)?;

@@ -75,8 +75,10 @@ const DRAWN: &str =
     1 1 new 0td 3244032 112 16\n1 0 full 0l 112 16\n1 1 full 0t1 3 16;dry 0 64 64;dry 1 200 64\n\
     1 0 full 1t1 112 16;back 0l 18 3;new 0t1 491520 49152 1048576\n1 1 no 0td 0 1048576 112";
 
-// How many of these have each why, from 0 on, which is none.
-const COUNTS: [u32; 15] = [46, 0, 14, 30, 4, 0, 3, 24, 0, 0, 25, 2, 19, 14, 19];
+// How many entries of each have each why from 0 on, which is none; the last number is of those where an audit answers otherwise.
+const LAWFUL_COUNTS: [u32; 16] = [243, 0, 0, 0, 0, 0, 0, 0, 0, 0, 0, 0, 0, 0, 0, 0];
+
+const DRAWN_COUNTS: [u32; 16] = [46, 0, 14, 30, 4, 0, 3, 24, 0, 0, 25, 2, 19, 14, 19, 0];
 
 const PLACES: [Place; 11] = [
     MAGAZINE,
@@ -185,25 +187,44 @@ impl Steps {
     }
 }
 
+// The two states before any entry.
+fn opening(alloc: Global, p: &Profile) -> Result<Steps, AllocError> {
+    let state = opened(alloc, p)?;
+    let twin = opened(alloc, p)?;
+    let list = Vec::new(alloc);
+    Ok(Steps { state, twin, list })
+}
+
+// Counts one more entry with this why.
+fn count(counts: &mut [u32; 16], why: u8) {
+    let why = why as usize;
+    if why < 16 {
+        counts[why] = counts[why].wrapping_add(1);
+    }
+}
+
+// Feeds the events of these lines, and counts how many have each why.
+fn feed_all(
+    steps: &mut Steps,
+    alloc: Global,
+    p: &Profile,
+    text: &str,
+) -> Result<[u32; 16], StepFault> {
+    let mut counts = [0; 16];
+    let list = entries(alloc, text, "")?;
+    for e in &list {
+        let why = steps.feed(alloc, p, e.caller, e.event)?;
+        count(&mut counts, why);
+    }
+    Ok(counts)
+}
+
 #[test]
 fn steps_are_audits(rt: HostRuntime) -> Result<(), Fail> {
     let p = small_space();
-    let mut steps = Steps {
-        state: opened(rt.alloc(), &p)?,
-        twin: opened(rt.alloc(), &p)?,
-        list: Vec::new(rt.alloc()),
-    };
-    for e in entries(rt.alloc(), LAWFUL, "")? {
-        let why = steps.feed(rt.alloc(), &p, e.caller, e.event)?;
-        assert!(rt; why == 0);
-    }
-    assert!(rt; steps.list.len() == 243);
-    let mut counts = [0u32; 15];
-    for e in entries(rt.alloc(), DRAWN, "")? {
-        let why = steps.feed(rt.alloc(), &p, e.caller, e.event)? as usize;
-        assert!(rt; why < 15);
-        counts[why] = counts[why].wrapping_add(1);
-    }
-    assert!(rt; counts == COUNTS);
+    let mut steps = opening(rt.alloc(), &p)?;
+    let lawful = feed_all(&mut steps, rt.alloc(), &p, LAWFUL)?;
+    let drawn = feed_all(&mut steps, rt.alloc(), &p, DRAWN)?;
+    assert!(rt; lawful == LAWFUL_COUNTS && drawn == DRAWN_COUNTS);
     Ok(())
 }

@@ -14,3 +14,10 @@ free-requires-clause-block g c = handed c.of_hands.ensures _ _ _ _ _ _ c.in-Ok.e
 
 pub returns-else-frees-clause-ready : goal.returns-else-frees-clause-ready
 returns-else-frees-clause-ready g c = ready_then _ _ _ 80 _ c.requires c.in-Ok.ensures.answers.goes
+
+pub returns-in_default-clause-ready : goal.returns-in_default-clause-ready
+returns-in_default-clause-ready g c = ready_then _ _ _ 80 _ c.requires c.malloc.ensures.answers.goes
+
+pub returns-in-Ok-free-clause-ready : goal.returns-in-Ok-free-clause-ready
+returns-in-Ok-free-clause-ready g c =
+    ready_then _ _ _ 40 _ (ready_for_more _ _ _ _ c.requires c.in-Ok.ensures.answers.goes c.in-Ok.ensures.answers.few) c.free.ensures.frees.goes

@@ -183,3 +183,11 @@ ready_settled v t p n ready opened = record { each = λ z below. there z (ready.
 pub settled_so : (s t : Account) (b class : ℕ) (r : Result (Unit {0}) Found) → Settles s b class r t → IsOpening s t
 settled_so s t b class (Ok u) x = record { after = subst (λ (u : Account). u ≡ record s { settled = u.settled; founds = u.founds; found = u.found }) (sym x.after) refl }
 settled_so s t b class (Err f) x = record { after = subst (λ (u : Account). u ≡ record s { settled = u.settled; founds = u.founds; found = u.found }) (sym x.after) refl }
+
+-- of a profile that is the same
+
+pub ready_same : (v : AtView) (p q : Profile) (n : ℕ) → p ≡ q → IsReady v q n → IsReady v p n
+ready_same v p q n e ready = subst (λ r. IsReady v r n) (sym e) ready
+
+pub serve_same : (s : Account) (p q : Profile) (z y n : ℕ) → p ≡ q → z ≡ y → CanServe s q y n → CanServe s p z n
+serve_same s p q z y n e f can = subst (λ r. CanServe s r z n) (sym e) (subst (λ x. CanServe s q x n) (sym f) can)

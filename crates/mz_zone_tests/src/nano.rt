@@ -6,9 +6,7 @@ ghost use Rattle.mz_base.specs.declared.profile.Profile.{Profile as Limits};
 ghost use Rattle.mz_zone.specs.Calling.{seen, Seated, with_seat, KeepsReferences};
 ghost use Rattle.mz_zone_tests.specs.Tested.{IsReady, at_book};
 
-use crate::setting::{
-    end, full, new, noted, of_hands, profile, setting, take, tiny, tiny_depot,
-};
+use crate::setting::{end, full, new, noted, of_hands, profile, setting, take, tiny, tiny_depot};
 use crate::steps::{Answer, Step, go_on};
 use mz_book::{Book, PlainBook};
 use mz_events::Place;

@@ -1,6 +1,6 @@
-use Rattle.std.proofs.Common.{ap, sym, subst, ◌∙◌, arith}
+use Rattle.std.proofs.Common.{ap, sym, ◌∙◌, arith}
 use Rattle.mz_base.specs.declared.profile.Profile.{Profile}
-use Rattle.mz_zone_tests.specs.Tested.{IsReady}
+use Rattle.mz_zone_tests.proofs.Tested.{ready_same}
 use Rattle.mz_zone_tests.proofs.nano.a_slot_of_another_class_goes_back.Goals as goal
 
 pub settle_first-requires-clause-pages : goal.settle_first-requires-clause-pages
@@ -23,6 +23,6 @@ go_on-requires-clause-same g c = c.in_ok-second.ensures.profile ∙ sym c.in_ok-
 
 pub go_on-requires-clause-left : goal.go_on-requires-clause-left
 go_on-requires-clause-left g c = record {
-  ready = subst (λ p. IsReady _ p 0) (sym (c.in_ok-first.ensures.profile ∙ c.profile-p.ensures.same)) (c.settle_first.ensures _ _ c.in_ok-book.ensures.ready);
+  ready = ready_same _ _ _ 0 (c.in_ok-first.ensures.profile ∙ c.profile-p.ensures.same) (c.settle_first.ensures _ _ c.in_ok-book.ensures.ready);
   held = tt;
 }

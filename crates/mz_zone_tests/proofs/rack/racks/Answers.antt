@@ -1,17 +1,15 @@
-use Rattle.std.proofs.Common.{ap, sym, subst, ◌∙◌, arith}
+use Rattle.std.proofs.Common.{ap, ◌∙◌, arith}
 use Rattle.mz_base.specs.declared.profile.Profile.{Profile}
-use Rattle.mz_rack.specs.Serving.{CanServe}
+use Rattle.mz_zone_tests.proofs.Tested.{serve_same}
 use Rattle.mz_zone_tests.proofs.rack.racks.Goals as goal
 
 pub returns-clause-first : goal.returns-clause-first
 returns-clause-first g c =
-    subst (λ z. CanServe _ _ z 0) (sym c.in_ok-first.ensures.zone)
-    (subst (λ p. CanServe _ p 0 0) (sym (c.in_ok-first.ensures.profile ∙ c.profile-p.ensures.same)) (c.in_ok-book.ensures.ready.each 0 (omega arith)).serve)
+    serve_same _ _ _ _ 0 0 (c.in_ok-first.ensures.profile ∙ c.profile-p.ensures.same) c.in_ok-first.ensures.zone (c.in_ok-book.ensures.ready.each 0 (omega arith)).serve
 
 pub returns-clause-second : goal.returns-clause-second
 returns-clause-second g c =
-    subst (λ z. CanServe _ _ z 0) (sym c.in_ok-second.ensures.zone)
-    (subst (λ p. CanServe _ p 1 0) (sym (c.in_ok-second.ensures.profile ∙ c.profile-p.ensures.same)) (c.in_ok-book.ensures.ready.each 1 (omega arith)).serve)
+    serve_same _ _ _ _ 1 0 (c.in_ok-second.ensures.profile ∙ c.profile-p.ensures.same) c.in_ok-second.ensures.zone (c.in_ok-book.ensures.ready.each 1 (omega arith)).serve
 
 pub returns-clause-first_callers : goal.returns-clause-first_callers
 returns-clause-first_callers g c = ap (λ (p : Profile). p.callers) (c.in_ok-first.ensures.profile ∙ c.profile-p.ensures.same)

@@ -7,5 +7,5 @@ batch_malloc-requires-clause-can g c = can_at _ c.args.zone.now 0 c.requires
 pub returns-in-Ok : goal.returns-in-Ok
 returns-in-Ok g c = record { ready = ready_then _ _ _ 0 _ c.requires c.in-Ok.ensures.answers.2.goes; held = tt }
 
-pub returns-in-Err : goal.returns-in-Err
-returns-in-Err g c = record { ready = ready_then _ _ _ 0 _ c.requires c.in-Err.ensures.answers.2.goes; held = tt }
+pub returns : goal.returns
+returns g c = record { ready = ready_then _ _ _ 0 _ c.requires c.in-Err.ensures.answers.2.goes; held = tt }

@@ -34,6 +34,7 @@ OfKinds (kind.Place ∷ ks) P = (k : Place) → OfKinds ks (λ ws. P (word.Place
 OfKinds (kind.Range ∷ ks) P = (r : Range) → OfKinds ks (λ ws. P (word.Range r ∷ ws))
 OfKinds (kind.Bytes ∷ ks) P = (bs : List ℕ) → OfKinds ks (λ ws. P (word.Bytes bs ∷ ws))
 
+-- and so of all words that are of them
 of_kinds : (P : List Word → Type 0) (ws : List Word) → OfKinds (map kind_of ws) P → P ws
 of_kinds P [] h = h
 of_kinds P (word.Number n ∷ ws) h = of_kinds (λ vs. P (word.Number n ∷ vs)) ws (h n)
@@ -52,7 +53,7 @@ of_kinds P (word.Place k ∷ ws) h = of_kinds (λ vs. P (word.Place k ∷ vs)) w
 of_kinds P (word.Range r ∷ ws) h = of_kinds (λ vs. P (word.Range r ∷ vs)) ws (h r)
 of_kinds P (word.Bytes bs ∷ ws) h = of_kinds (λ vs. P (word.Bytes bs ∷ vs)) ws (h bs)
 
--- what follows where it holds of each of these forms, with words of its kinds
+-- what follows where it holds of each of these forms, with any words of its kinds
 abbrev pub FromEach : List Form → (Form → List Word → Type 0) → Type 0 → Type 0
 FromEach [] P Q = Q
 FromEach (f ∷ fs) P Q = OfKinds (kinds_of f) (P f) → FromEach fs P Q
@@ -61,9 +62,11 @@ settled : (fs : List Form) (P : Form → List Word → Type 0) (Q : Type 0) → 
 settled [] P Q q = q
 settled (f ∷ fs) P Q q = λ h. settled fs P Q q
 
+-- there is no value where none was read
 pub no_value : {A B : Type 0} (x : A) → None ≡ Some x → B
 no_value x h = absurd cc
 
+-- it holds of a form that is found among these, with words of its kinds
 first_or_later : (b : Bool) (g f : Form) (o : Option Form) → cond b (Some g) o ≡ Some f → (g ≡ f) ⊎ (o ≡ Some f)
 first_or_later true g f o h = inl (some_same g f h)
 first_or_later false g f o h = inr h

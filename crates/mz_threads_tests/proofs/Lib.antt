@@ -1,0 +1,6 @@
+mod ToyLemmas
+mod BothFull
+mod SlotCalls
+mod FullCalls
+mod TwoPasses
+mod Crosses

@@ -1,0 +1,5 @@
+pub mod Tested
+pub mod BackInHand
+pub mod TwoZones
+pub mod Asked
+pub mod StillMine

@@ -19,7 +19,7 @@ fn stops_reading<R: Threads + Wait + Sync>(
 ) -> Result<bool, AllocError> {
     let words = words_of(alloc, word)?;
     let bytes = TRACE.as_bytes().to_vec(alloc)?;
-    let mut source = MemSource::new(bytes, most, [at].to_vec(alloc)?);
+    let mut source = MemSource::new(bytes, most.max(1), [at].to_vec(alloc)?);
     let mut sink = FixedSink::<ROOM>::new();
     let status = mzone_main(rt, alloc, &words, &mut source, &mut sink, &OpenGate);
     Ok(status == Status::ReadFault && source.faults() == 1 && sink.bytes().is_empty())
@@ -38,7 +38,7 @@ fn stops_writing<R: Threads + Wait + Sync>(
 ) -> Result<bool, AllocError> {
     let words = words_of(alloc, word)?;
     let mut source = SureSource::new(input.as_bytes().to_vec(alloc)?);
-    let mut sink = MemSink::new(alloc, ROOM, most, [at].to_vec(alloc)?)?;
+    let mut sink = MemSink::new(alloc, ROOM, most.max(1), [at].to_vec(alloc)?)?;
     let status = mzone_main(rt, alloc, &words, &mut source, &mut sink, &OpenGate);
     Ok(status == Status::WriteFault && sink.bytes() == written)
 }

@@ -1,5 +1,5 @@
 -- A toy may be held while a book is told that large is full, once and again and again.
-use Rattle.std.proofs.Common.{◌≡◌, ℕ, ◌+◌, ◌-◌, ◌<◌, ◌≤◌, [], ◌∷◌, ◌++◌, true, refl, ap, sym, subst, ◌∙◌, zero, suc, arith, length, length-append, append-nil, None, ne_eqb}
+use Rattle.std.proofs.Common.{◌≡◌, ℕ, ◌+◌, ◌-◌, ◌<◌, ◌≤◌, [], ◌∷◌, ◌++◌, true, refl, ap, sym, subst, ◌∙◌, zero, suc, arith, length-append, append-nil, None, ne_eqb}
 use Rattle.std.specs.List.{list_all}
 use Rattle.std.proofs.lemmas.Bool.{false≢true}
 use Rattle.std.proofs.lemmas.List.{append_assoc}

@@ -1,4 +1,4 @@
-use Rattle.std.proofs.Common.{◌≡◌, List, length, sym, ap, ◌∙◌, subst}
+use Rattle.std.proofs.Common.{List, sym, subst}
 use Rattle.mz_nano.specs.declared.seat.NanoSeat.{NanoSeat}
 use Rattle.mz_nano.specs.SeatLists.{AreAllOf}
 use Rattle.mz_nano.proofs.AllLemmas.{all_two}

@@ -16,14 +16,14 @@ note-ticket-requires g c =
 pub release-requires-clause-can : goal.release-requires-clause-can
 release-requires-clause-can g c =
     let s = g.B.Book.account c.args.book.now in
-    can_release s _ _ s c.hold-large.result.number c.note-ticket.result c.requires c.hold-large.ensures.holds c.hold-large.ensures.stands c.note-ticket.ensures
+    can_release s (g.B.Book.account c.hold-large.new.self) (g.B.Book.account c.note-ticket.new.self) s c.hold-large.result.number c.note-ticket.result c.requires c.hold-large.ensures.holds c.hold-large.ensures.stands c.note-ticket.ensures
 
 pub release-requires-clause-stands : goal.release-requires-clause-stands
 release-requires-clause-stands g c =
     let s = g.B.Book.account c.args.book.now in
-    stands_again s _ _ s c.hold-large.result.number c.note-ticket.result c.requires c.hold-large.ensures.holds c.hold-large.ensures.stands c.note-ticket.ensures
+    stands_again s (g.B.Book.account c.hold-large.new.self) (g.B.Book.account c.note-ticket.new.self) s c.hold-large.result.number c.note-ticket.result c.requires c.hold-large.ensures.holds c.hold-large.ensures.stands c.note-ticket.ensures
 
 pub returns : goal.returns
 returns g c =
     let s = g.B.Book.account c.args.book.now in
-    was_full s _ _ _ c.hold-large.result.number c.note-ticket.result c.requires c.hold-large.ensures.holds c.hold-large.ensures.stands c.note-ticket.ensures c.release.ensures
+    was_full s (g.B.Book.account c.hold-large.new.self) (g.B.Book.account c.note-ticket.new.self) (g.B.Book.account c.release.new.self) c.hold-large.result.number c.note-ticket.result c.requires c.hold-large.ensures.holds c.hold-large.ensures.stands c.note-ticket.ensures c.release.ensures

@@ -252,7 +252,7 @@ module _ (L : BookLaws) (w : Way) (f : ℕ) where
         back_met : (g n : ℕ) → (known u (at_depot w)).duty ≡ Some (Back w.depot g w.pages) → z.mine ≡ entry_at n u.caller (Back w.depot g w.pages) ∷ [] → MeetsDuty u.profile y.seen e (entry_at n u.caller (Back w.depot g w.pages))
         back_met g n owed is = record {
           duty = duty_is ∙ ap (λ o. first_some (o ∷ [])) owed;
-          first = met_first L u y e (entry_at n u.caller (Back w.depot g w.pages)) [] z.holds (depot_of w.magazine) x.last lawful_y (subst (λ es. Grows u es z.holds y) is grown) (plain_d L u.profile w x.way)
+          at_once = met_first L u y e (entry_at n u.caller (Back w.depot g w.pages)) [] z.holds (depot_of w.magazine) x.last lawful_y (subst (λ es. Grows u es z.holds y) is grown) (plain_d L u.profile w x.way)
               (ap (λ l. is_held u.profile l (at_depot w)) x.held ∙ two_d L u.profile w x.way)
               (λ a h. subst (λ d. touches u.profile a (spot_of d) ≡ true) x.way.depot (back_touches L u.profile w.depot g w.pages a h)) (All-nil (λ a. is_that (Back w.depot g w.pages) a.event ≡ false));
         }

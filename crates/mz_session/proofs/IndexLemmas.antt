@@ -174,7 +174,8 @@ batch-begins base count k h xs is within once found lower =
     lowest-first (λ g. is_in_batch base count g.name) h xs
     (ap (is_in_batch base count) is ∙ and_from (bytes_eq base base) (nat_lt k count) ((bytes_eq-Decides base base).1 refl) (lt-ltb k count within)) once
     (ap (held_in xs) is ∙ found)
-    (λ y there passes other. above-name base count k xs lower y there y.name refl passes (ap (same_name y.name) (sym is) ∙ other))
+    (λ y there passes other.
+    subst (λ j. j < key y) (sym (ap index_of is)) (above-name base count k xs lower y there y.name refl passes (ap (same_name y.name) (sym is) ∙ other)))
 
 -- and where no number is held, there are none
 none-first : (base : List ℕ) (count : ℕ) (xs : List Holding) → ((i : ℕ) → held_in xs (batch_name base i) ≡ None) → (y : Holding) → Contains xs y → (n : Name) → y.name ≡ n → is_in_batch base count n ≡ false

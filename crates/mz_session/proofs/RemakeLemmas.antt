@@ -245,6 +245,10 @@ module _ (L : SessionLaws) (s : SessionView) (x : BlockView) (kept : Keeps s (x 
   other-of : (y : BlockView) → Contains (views_kept s []) y → same_block (block_of x) (block_of y) ≡ false
   other-of y still = symmetric (block_of y) (block_of x) (kept-beside s x [] kept y still)
 
+  -- what caller c asks of the block of zone z, after all that was seen before
+  abbrev asked : ℕ → ℕ → List Entry → Resize
+  asked c z mine = record { caller = c; zone = z; block = block_of x; bytes = n; low = above s.at.book.seen; high = least_ticket (length w.book.seen) mine }
+
   moved-then :
       (got : Option Block) (mine : List Entry) (t : ℕ) → length b.seen ≤ t → ((e : Entry) → Contains mine e → t ≤ e.ticket)
       → IsMoved b.profile w.book.seen (resize_at b t s.zone.zone (block_of x) n) mine got → Goes (roomier s b) mine w
@@ -259,9 +263,6 @@ module _ (L : SessionLaws) (s : SessionView) (x : BlockView) (kept : Keeps s (x 
       (subst (λ c. IsMoved s.at.book.profile w.book.seen (asked c s.zone.zone mine) mine got) (ap (λ v. v.caller) room ∙ kept.caller)
       (subst (λ p. IsMoved p w.book.seen (asked b.caller s.zone.zone mine) mine got) (ap (λ v. v.profile) room)
       (wider b.profile w.book.seen mine (above s.at.book.seen) (resize_at b t s.zone.zone (block_of x) n) got low noted moves)))
-    where
-      asked : ℕ → ℕ → List Entry → Resize
-      asked c z mine = record { caller = c; zone = z; block = block_of x; bytes = n; low = above s.at.book.seen; high = least_ticket (length w.book.seen) mine }
 
   stays-remade : (d : BlockView) → Stays (roomier s b) x n d w → IsAtItsSlot d → Remakes s x n (Some d) (moved s w)
   stays-remade d stays placed =

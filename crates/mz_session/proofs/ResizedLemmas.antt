@@ -309,7 +309,7 @@ module _ (L : SessionLaws) (s u w t : SessionView) (names : Names) (old new : Na
       remakes.resizing
 
   -- what is asked, where so much was seen before, and these entries come at the latest
-  asked : List Entry → List Entry → ℕ → Resize
+  abbrev asked : List Entry → List Entry → ℕ → Resize
   asked before mine_now count = record { caller = 0; zone = b.zone; block = x; bytes = n; low = above before; high = least_ticket count mine_now }
 
   does-so : (v : Standing) → AreEntries (setting_of s t v) 0 (resizing new (holding_of old b) n) mine

@@ -1,5 +1,5 @@
 -- The session stands for what a record leaves.
-use Rattle.std.proofs.Common.{◌≡◌, ℕ, true, false, cond, not, [], Option, Some, None, Ok, refl, ap, sym, subst, ◌∙◌, inl, inr}
+use Rattle.std.proofs.Common.{◌≡◌, ℕ, true, false, cond, not, [], Option, Some, None, Ok, refl, ap, sym, subst, ◌∙◌, inl, inr, ◌∷◌}
 use Rattle.std.specs.Option.{option_map}
 use Rattle.std.proofs.lemmas.Bool.{cases_Bool}
 use Rattle.std.proofs.lemmas.Option.{none-some}

@@ -1,30 +1,18 @@
 -- A rack by itself: after each request another one can be made.
-use Rattle.std.proofs.Common.{◌≡◌, ◌≤◌, Bool, true, false, ℕ, List, [], ◌∷◌, ◌++◌, Option, Some, Ok, ap, sym, subst, ◌∙◌, refl, arith}
-use Rattle.std.specs.Option.{option_to_list}
-use Rattle.std.specs.Prelude.{Result, ◌||◌}
+use Rattle.std.proofs.Common.{◌≡◌, ℕ, [], ◌∷◌, ◌++◌, Some, Ok, ap, sym, subst, ◌∙◌, arith}
+use Rattle.std.specs.Prelude.{Result}
 use Rattle.mz_base.specs.declared.profile.Profile.{Profile}
-use Rattle.mz_base.specs.Limits.{IsWithinLimits, IsFrom}
-use Rattle.mz_base.specs.Site.{Site}
-use Rattle.mz_events.specs.State.{is_open, opening}
-use Rattle.mz_events.specs.History.{after_all}
 use Rattle.mz_book.specs.Account.{Account, hand}
-use Rattle.mz_book.specs.Plain.{opening_account, Reserves, ActsAs}
+use Rattle.mz_book.specs.Plain.{Reserves, ActsAs}
 use Rattle.mz_rack.specs.declared.lot.Null.{Null}
 use Rattle.mz_rack.specs.Lots.{LotView}
 use Rattle.mz_rack.specs.Serving.{CanServe, Answers}
-use Rattle.mz_base.specs.Space.{Block, same_block}
 use Rattle.mz_base.specs.Lists.{has_block}
-use Rattle.mz_events.specs.declared.entry.Entry.{Entry}
-use Rattle.mz_events.specs.Hands.{hand_through}
-use Rattle.mz_record.specs.Served.{Request, IsServed}
-use Rattle.mz_book.specs.declared.pair.Pair.{Pair}
 use Rattle.mz_book.specs.Pairs.{hand_among}
-use Rattle.mz_book.specs.Growth.{pairs_through}
-use Rattle.mz_rack.specs.declared.lot.NotLive.{NotLive}
 use Rattle.mz_rack.specs.Ways.{request_of}
-use Rattle.mz_rack.specs.Freeing.{block_of, IsFreeable, Frees}
+use Rattle.mz_rack.specs.Freeing.{block_of, IsFreeable}
 use Rattle.mz_zone_tests.specs.Tested.{HandLaws}
-use Rattle.mz_zone_tests.proofs.Tested.{same_itself, has_last}
+use Rattle.mz_zone_tests.proofs.Tested.{has_last}
 
 pub can_as : (s t : Account) (p : Profile) (z c : ℕ) → CanServe s p z 0 → ActsAs s c t → CanServe t p z 0
 can_as s t p z c can acts =

@@ -1,21 +1,15 @@
 -- A block that came back can be handed in, and so can those that were there before a request.
-use Rattle.std.proofs.Common.{◌≡◌, ℕ, ◌==◌, ◌≤◌, Bool, true, false, List, [], ◌∷◌, ◌++◌, Option, None, Some, length, map, refl, ap, sym, subst, ◌∙◌, arith, inl, inr, append-nil, length-append}
-use Rattle.std.specs.Prelude.{Result, Ok, Err, IfSome, if◌then◌else◌, ◌⊎◌}
+use Rattle.std.proofs.Common.{◌≡◌, ℕ, true, List, [], ◌∷◌, ◌++◌, Option, None, Some, ap, sym, subst, ◌∙◌, arith, inl, inr, append-nil}
+use Rattle.std.specs.Prelude.{Result, Ok, Err, IfSome, ◌⊎◌}
 use Rattle.std.specs.List.{AllByRecursion}
 use Rattle.std.proofs.lemmas.Option.{same_Some}
-use Rattle.std.proofs.lemmas.List.Sums.{fold-append}
-use Rattle.std.proofs.lemmas.Bool.{or_left, or_right, and_parts, eqb-true, false≢true}
 use Rattle.mz_base.specs.declared.profile.Profile.{Profile}
-use Rattle.mz_base.specs.Sizes.{good_size_of}
-use Rattle.mz_base.specs.Space.{Block, block_at, same_block}
-use Rattle.mz_base.specs.Lists.{has_block, drop_block}
+use Rattle.mz_base.specs.Space.{Block}
+use Rattle.mz_base.specs.Lists.{has_block}
 use Rattle.mz_events.specs.declared.entry.Entry.{Entry}
-use Rattle.mz_events.specs.declared.event.Event.{Event}
-use Rattle.mz_events.specs.declared.event.Event.TheVariants.{Size}
 use Rattle.mz_events.specs.Hands.{own, hand_after, hand_through}
-use Rattle.mz_record.specs.Served.{events}
-use Rattle.mz_record.specs.Dropped.{IsDropped, IsNotOfZone}
-use Rattle.mz_record.specs.Resized.{IsResized, same_size, in_place, still_large, IsMoved, moved, not_moved}
+use Rattle.mz_record.specs.Dropped.{IsNotOfZone}
+use Rattle.mz_record.specs.Resized.{IsMoved, moved, not_moved}
 use Rattle.mz_book.specs.Account.{hand}
 use Rattle.mz_nano.specs.declared.view.Held.{Held}
 use Rattle.mz_nano.specs.SeatLists.{first_of}

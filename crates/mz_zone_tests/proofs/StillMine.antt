@@ -1,19 +1,18 @@
 -- What is in the hand stays there while other requests are served, and a block that gets another size does.
-use Rattle.std.proofs.Common.{◌≡◌, ℕ, ◌==◌, Bool, true, false, not, List, [], ◌∷◌, ◌++◌, length, map, Some, Ok, refl, ap, sym, subst, ◌∙◌, arith, inl, inr}
+use Rattle.std.proofs.Common.{◌≡◌, ℕ, Bool, true, false, List, [], ◌∷◌, length, map, Some, Ok, refl, ap, sym, subst, ◌∙◌, arith}
 use Rattle.std.specs.Option.{option_to_list}
-use Rattle.std.specs.Prelude.{◌≢◌, Result, if◌then◌else◌}
+use Rattle.std.specs.Prelude.{Result, if◌then◌else◌}
 use Rattle.std.proofs.lemmas.Option.{same_Some}
-use Rattle.std.proofs.lemmas.Bool.{and_parts, or_left, or_right, cases_Bool, cond-true, cond-false, false≢true, eqb-true}
+use Rattle.std.proofs.lemmas.Bool.{or_left, or_right, false≢true}
 use Rattle.mz_base.specs.declared.profile.Profile.{Profile}
 use Rattle.mz_base.specs.Sizes.{good_size_of}
 use Rattle.mz_base.specs.Space.{Block, block_at, same_block}
-use Rattle.mz_base.specs.Lists.{has_block, drop_block}
+use Rattle.mz_base.specs.Lists.{has_block}
 use Rattle.mz_events.specs.declared.entry.Entry.{Entry}
 use Rattle.mz_events.specs.declared.event.Event.{Event}
 use Rattle.mz_events.specs.declared.event.Event.TheVariants.{Size}
 use Rattle.mz_events.specs.Hands.{hand_after, hand_through}
 use Rattle.mz_record.specs.Served.{events}
-use Rattle.mz_record.specs.Dropped.{IsDropped}
 use Rattle.mz_record.specs.Resized.{IsResized, same_size, in_place as resized_in_place, still_large}
 use Rattle.mz_book.specs.Account.{Account, hand}
 use Rattle.mz_book.specs.Pairs.{hand_among}
@@ -23,7 +22,7 @@ use Rattle.mz_rack.specs.declared.lot.Null.{Null}
 use Rattle.mz_rack.specs.Lots.{LotView}
 use Rattle.mz_rack.specs.Ways.{request_of}
 use Rattle.mz_rack.specs.Serving.{Answers, block_got}
-use Rattle.mz_rack.specs.Freeing.{block_of, IsFreeable, Frees}
+use Rattle.mz_rack.specs.Freeing.{block_of, IsFreeable}
 use Rattle.mz_rack.specs.Resizing.{Resizes}
 use Rattle.mz_zone_tests.specs.Tested.{HandLaws}
 use Rattle.mz_zone.proofs.Elsewhere.{front_there}

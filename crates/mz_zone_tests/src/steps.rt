@@ -13,7 +13,7 @@ use std::alloc::{AllocError, Global};
 use std::sync::Wait;
 
 /// What is done at a zone. At most one block is at hand.
-#[derive(Clone, Copy, Debug, PartialEq, Eq)]
+#[derive(Clone, Copy)]
 pub enum Step {
     /// The block that is made is at hand then.
     Make(u64),
@@ -27,7 +27,7 @@ pub enum Step {
 }
 
 /// How a step is answered.
-#[derive(Clone, Copy, Debug, PartialEq, Eq)]
+#[derive(Clone, Copy, PartialEq)]
 pub enum Answer {
     /// A block with this first address and so many bytes.
     Block(u64, u64),
@@ -45,7 +45,7 @@ pub enum Answer {
 }
 
 // A block as it was when it was marked: its first address, and its size.
-#[derive(Clone, Copy, Debug, PartialEq, Eq)]
+#[derive(Clone, Copy)]
 struct Mark {
     first: u64,
     size: u64,

@@ -4,7 +4,7 @@ use Rattle.mz_zone_tests.proofs.Tested.{can_at, handed, ready_then, ready_for_mo
 use Rattle.mz_zone_tests.proofs.nano.make_one.Goals as goal
 
 pub malloc-requires : goal.malloc-requires
-malloc-requires g c = can_fewer _ _ _ 80 40 (omega arith) (can_at _ c.args.zone.now 80 c.requires)
+malloc-requires g c = record { can = can_fewer _ _ _ 80 40 (omega arith) (can_at _ c.args.zone.now 80 c.requires) }
 
 pub free-requires-clause-can : goal.free-requires-clause-can
 free-requires-clause-can g c = can_at _ c.args.zone.now 40 (ready_for_more _ _ _ _ c.requires c.in-Ok.ensures.answers.goes c.in-Ok.ensures.answers.few)

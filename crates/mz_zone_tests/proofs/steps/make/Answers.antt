@@ -2,7 +2,7 @@ use Rattle.mz_zone_tests.proofs.Tested.{can_at, handed, ready_then}
 use Rattle.mz_zone_tests.proofs.steps.make.Goals as goal
 
 pub malloc-requires : goal.malloc-requires
-malloc-requires g c = can_at _ c.args.zone.now 40 c.in_ok-make_room.ensures.ready
+malloc-requires g c = record { can = can_at _ c.args.zone.now 40 c.in_ok-make_room.ensures.ready }
 
 pub returns-in-Ok : goal.returns-in-Ok
 returns-in-Ok g c = record {

@@ -3,7 +3,7 @@ use Rattle.mz_zone_tests.proofs.BackInHand.{still_handed}
 use Rattle.mz_zone_tests.proofs.steps.make_beside.Goals as goal
 
 pub malloc-requires : goal.malloc-requires
-malloc-requires g c = can_at _ c.args.zone.now 40 c.in_ok-make_room.ensures.ready
+malloc-requires g c = record { can = can_at _ c.args.zone.now 40 c.in_ok-make_room.ensures.ready }
 
 pub returns-in-Ok-clause-ready : goal.returns-in-Ok-clause-ready
 returns-in-Ok-clause-ready g c = ready_then _ _ _ 40 _ c.in_ok-make_room.ensures.ready c.in-Ok.ensures.answers.goes

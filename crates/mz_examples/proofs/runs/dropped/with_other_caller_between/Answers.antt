@@ -23,4 +23,4 @@ returns-clause-dropped c = (magazine, refl, (meets refl refl, refl))
 
 pub returns-clause-done_by_other : goal.returns-clause-done_by_other
 returns-clause-done_by_other c = λ dropped.
-    false≢true (dropped.2.0.first (entry_of_other 10 (event.Move 0 magazine depot)) (10, omega arith, refl) (omega arith) (omega arith))
+    false≢true (dropped.2.0.at_once (entry_of_other 10 (event.Move 0 magazine depot)) (10, omega arith, refl) (omega arith) (omega arith))

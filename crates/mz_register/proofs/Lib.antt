@@ -15,3 +15,4 @@ mod HandInLemmas
 mod WriteLemmas
 mod FitLemmas
 mod AtEnd
+mod RecordLemmas

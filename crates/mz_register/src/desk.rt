@@ -35,6 +35,7 @@ impl<'a, V: Keep + Drop> Book<V> for Desk<'a, V> {
     /// Takes the keeper of number `k`. Of its exchanges just one finds the word that it expects, which is the lock of `k`: no other
     /// keeper is taken on the way.
     fn hold<R: Wait>(&mut self, rt: &R, k: usize) -> V
+        requires { CanHold (⟦<Desk<'a, V> as Book<V>>⟧.account self.old) k }
         ensures holds { Holds (⟦<Desk<'a, V> as Book<V>>⟧.account self.old) k (⟦<Desk<'a, V> as Book<V>>⟧.account self.new) }
         ensures stands { StandsFor (⟦<Desk<'a, V> as Book<V>>⟧.account self.new) k (V.keeping result) }
         ensures wins { WinsOne (⟦<Desk<'a, V> as Book<V>>⟧.exchanges self.old) (⟦<Desk<'a, V> as Book<V>>⟧.exchanges self.new) }

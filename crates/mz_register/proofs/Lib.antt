@@ -4,10 +4,12 @@ mod Rests
 mod AccountMoves
 mod SeatCalls
 mod PassLemmas
+mod ZoneLemmas
 mod OpenLemmas
 mod WordLemmas
 mod FirstLemmas
 mod MergeLemmas
+mod PassLists
 mod CountLemmas
 mod Crosses
 mod JoinLemmas

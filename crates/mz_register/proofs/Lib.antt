@@ -11,10 +11,12 @@ mod FirstLemmas
 mod MergeLemmas
 mod PassLists
 mod CountLemmas
-mod Crosses
+pub mod Crosses
 mod JoinLemmas
 mod HandInLemmas
 mod WriteLemmas
 mod FitLemmas
 mod AtEnd
 mod RecordLemmas
+mod InOrder
+mod OwnerLemmas

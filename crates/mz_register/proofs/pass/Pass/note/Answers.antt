@@ -1,4 +1,4 @@
-use Rattle.std.proofs.Common.{◌≡◌, ◌-◌, [], ◌∷◌, length, arith, refl, ap, length-append}
+use Rattle.std.proofs.Common.{◌≡◌, ◌-◌, [], ◌∷◌, length, arith, refl, ap, ◌∙◌, length-append}
 use Rattle.mz_desk.specs.Views.{view_account}
 use Rattle.mz_register.specs.Passes.{table_numbers, keeps_zones}
 use Rattle.mz_register.specs.Accounts.{pass_account}

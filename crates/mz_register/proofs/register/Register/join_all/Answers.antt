@@ -15,12 +15,13 @@ use Rattle.mz_register.proofs.JoinLemmas.{joined_snoc, like, map_append, its_tab
 use Rattle.mz_register.proofs.MergeLemmas.{index_at, at_length}
 use Rattle.mz_register.proofs.PassLists.{cut_at, at_seam, back_at}
 use Rattle.mz_register.proofs.Rests.{none_of}
+use Rattle.mz_register.proofs.register.Register.join_all.Given as given
 use Rattle.mz_register.proofs.register.Register.join_all.Goals as goal
 
 pub first_of-place-requires : goal.first_of-place-requires
 first_of-place-requires g c = ap (λ ps. passes_of 0 ps) c.as_slice.ensures.value ∙ c.requires.all.one 0 (let n = c.args.self.now.limits.callers.0 in omega arith)
 
-module _ (g : goal.Over) (c : goal.After-first_of-place g) where
+module _ (g : given.Over) (c : goal.After-first_of-place g) where
   abbrev items : List (Pass g.row.V.Denot)
   items = c.args.passes.items
 

@@ -1,4 +1,5 @@
 use Rattle.std.proofs.Common.{◌≡◌, ◌-◌, [], ◌∷◌, length, arith, refl, ap, ◌∙◌, length-append}
+use Rattle.mz_events.specs.declared.entry.Entry.{Entry}
 use Rattle.mz_desk.specs.Views.{view_account}
 use Rattle.mz_register.specs.Passes.{table_numbers, keeps_zones}
 use Rattle.mz_register.specs.Accounts.{pass_account}
@@ -17,5 +18,5 @@ returns-clause-notes g c =
 pub invariant_of-self-clause-zones : goal.invariant_of-self-clause-zones
 invariant_of-self-clause-zones g c =
     let p = c.args.self.now in
-    let e = record { ticket = c.draw-ticket.result; caller = p.caller; event = c.args.event } in
+    let e : Entry = record { ticket = c.draw-ticket.result; caller = p.caller; event = c.args.event } in
     ap keeps_zones c.push_reserved.ensures.items ∙ steady_more p.noted.items e p.zones c.requires.can.between

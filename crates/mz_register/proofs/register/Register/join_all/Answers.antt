@@ -9,34 +9,27 @@ use Rattle.mz_desk.specs.declared.view.View.{View}
 use Rattle.mz_desk.specs.Keys.{opened_as}
 use Rattle.mz_desk.specs.Seats.{joined_view, CanTakeIn}
 use Rattle.mz_register.specs.declared.pass.Pass.{Pass}
-use Rattle.mz_register.specs.HandIn.{passes_of, IsIdleOf, joined_through, views_of}
+use Rattle.mz_register.specs.HandIn.{passes_of, IsIdleOf, IsFirstAt, joined_through, views_of}
 use Rattle.mz_register.specs.Accounts.{pass_account}
 use Rattle.mz_register.proofs.JoinLemmas.{joined_snoc, like, map_append, its_table, bare_handed, can_take}
 use Rattle.mz_register.proofs.MergeLemmas.{index_at, at_length}
 use Rattle.mz_register.proofs.PassLists.{cut_at, at_seam, back_at}
 use Rattle.mz_register.proofs.Rests.{none_of}
-use Rattle.mz_register.proofs.register.Register.join_all.Given as given
 use Rattle.mz_register.proofs.register.Register.join_all.Goals as goal
 
 pub first_of-place-requires : goal.first_of-place-requires
 first_of-place-requires g c = ap (λ ps. passes_of 0 ps) c.as_slice.ensures.value ∙ c.requires.all.one 0 (let n = c.args.self.now.limits.callers.0 in omega arith)
 
-module _ (g : given.Over) (c : goal.After-first_of-place g) where
-  abbrev items : List (Pass g.row.V.Denot)
-  items = c.args.passes.items
-
-  abbrev place : ℕ
-  place = c.first_of-place.result
-
-  at : slice_get items place ≡ Some c.first_of-place.ensures.pass
-  at = ap (λ ps. slice_get ps place) (sym c.as_slice.ensures.value) ∙ c.first_of-place.ensures.at
+-- where the pass of caller 0 is found, it is in the list
+found : {V : Type 0} (items shown : List (Pass V)) (i : ℕ) → shown ≡ items → (f : IsFirstAt shown i) → slice_get items i ≡ Some f.pass
+found items shown i e f = ap (λ ps. slice_get ps i) (sym e) ∙ f.at
 
 pub remove-first-requires : goal.remove-first-requires
-remove-first-requires g c = let l = at_length (items g c) (place g c) c.first_of-place.ensures.pass (at g c) in omega (arith, c.args.passes.ok.0)
+remove-first-requires g c = let l = at_length c.args.passes.items c.first_of-place.result c.first_of-place.ensures.pass (found c.args.passes.items c.as_slice.result.now c.first_of-place.result c.as_slice.ensures.value c.first_of-place.ensures) in omega (arith, c.args.passes.ok.0)
 
 pub push_reserved-requires : goal.push_reserved-requires
 push_reserved-requires g c =
-    let l = at_length (items g c) (place g c) c.first_of-place.ensures.pass (at g c) in
+    let l = at_length c.args.passes.items c.first_of-place.result c.first_of-place.ensures.pass (found c.args.passes.items c.as_slice.result.now c.first_of-place.result c.as_slice.ensures.value c.first_of-place.ensures) in
     let n = ap length c.requires.room.0 in
     let m = c.requires.room.1 in
     omega (arith, c.args.records.ok.0)
@@ -47,18 +40,18 @@ loop-pass-init g c =
     let first = c.remove-first.result in
     let q = c.first_of-place.ensures in
     let e = c.into_record-noted.ensures in
-    let is : first ≡ q.pass = c.remove-first.ensures.value ∙ index_at (items g c) (place g c) q.pass first (at g c) in
-    let here : slice_get (items g c) (place g c) ≡ Some first = at g c ∙ ap (λ (x : Pass g.row.V.Denot). Some x) (sym is) in
+    let is : first ≡ q.pass = c.remove-first.ensures.value ∙ index_at c.args.passes.items c.first_of-place.result q.pass first (found c.args.passes.items c.as_slice.result.now c.first_of-place.result c.as_slice.ensures.value c.first_of-place.ensures) in
+    let here : slice_get c.args.passes.items c.first_of-place.result ≡ Some first = found c.args.passes.items c.as_slice.result.now c.first_of-place.result c.as_slice.ensures.value c.first_of-place.ensures ∙ ap (λ (x : Pass g.row.V.Denot). Some x) (sym is) in
     record {
       first = first;
-      front = take (place g c) (items g c);
-      back = drop (suc (place g c)) (items g c);
+      front = take c.first_of-place.result c.args.passes.items;
+      back = drop (suc c.first_of-place.result) c.args.passes.items;
       done = [];
-      all = cut_at (items g c) (place g c) first here;
+      all = cut_at c.args.passes.items c.first_of-place.result first here;
       caller = ap (λ (x : Pass g.row.V.Denot). x.seat.me.0.caller) is ∙ q.caller;
       others = sym c.remove-first.ensures.items ∙ sym c.into_iter-rest.ensures.rest;
       left = let n = ap length c.into_iter-rest.ensures.rest in let a = c.into_iter-rest.ensures.len in omega (arith, c.remove-first.new.self.ok.0);
-      table = ap (λ t. t.2.table_id) e ∙ its_table r.table.shared.table_id r.opening.profile first (c.requires.all.each (place g c) first here);
+      table = ap (λ t. t.2.table_id) e ∙ its_table r.table.shared.table_id r.opening.profile first (c.requires.all.each c.first_of-place.result first here);
       view = ap (λ t. t.2.me.0) e;
       records = c.push_reserved.ensures.items ∙ (ap (λ (vs : List (Vec Entry Global)). vs ++ c.into_record-noted.result.0 ∷ []) c.requires.room.0 ∙ ap (λ t. t.0 ∷ []) e);
       held = ap (λ t. t.1) e;

@@ -1,7 +1,7 @@
 use Rattle.std.proofs.Common.{◌≡◌, ◌-◌, [], ◌∷◌, length, arith, refl, ap, ◌∙◌, length-append}
 use Rattle.mz_events.specs.declared.entry.Entry.{Entry}
 use Rattle.mz_desk.specs.Views.{view_account}
-use Rattle.mz_register.specs.Passes.{table_numbers, keeps_zones}
+use Rattle.mz_register.specs.Passes.{table_numbers, keys, bare, keeps_zones}
 use Rattle.mz_register.specs.Accounts.{pass_account}
 use Rattle.mz_register.proofs.AccountMoves.{notes}
 use Rattle.mz_register.proofs.ZoneLemmas.{steady_more}
@@ -20,3 +20,9 @@ invariant_of-self-clause-zones g c =
     let p = c.args.self.now in
     let e : Entry = record { ticket = c.draw-ticket.result; caller = p.caller; event = c.args.event } in
     ap keeps_zones c.push_reserved.ensures.items ∙ steady_more p.noted.items e p.zones c.requires.can.between
+
+pub invariant_of-self-clause-carried : goal.invariant_of-self-clause-carried
+invariant_of-self-clause-carried g c = ap keys c.draw-ticket.ensures.draws.carried ∙ c.args.self.now.carried
+
+pub invariant_of-self-clause-none_inside : goal.invariant_of-self-clause-none_inside
+invariant_of-self-clause-none_inside g c = ap bare c.draw-ticket.ensures.draws.carried ∙ c.args.self.now.none_inside

@@ -12,6 +12,7 @@
 //! - `free`: how a block ends there, and what its end calls for.
 //! - `resize`: how a block gets another size there.
 //! - `shelf`, `stock`, `region`: the parts of a keeper.
+//! - `shared`: that keepers may move between threads, and be shared.
 //!
 //! ```text
 //! request  ->  0t1   full?  ->  0td   full?  ->  0l, p   dry, and nothing cached?  ->  null
@@ -67,6 +68,7 @@ mod rack;
 mod region;
 mod resize;
 mod serve;
+pub mod shared;
 mod shelf;
 mod stock;
 mod way;

@@ -123,11 +123,7 @@ pub map_append : {A : Type 0} {B : Type 0} (f : A → B) (xs ys : List A) → ma
 map_append f [] ys = refl
 map_append f (x ∷ xs) ys = ap (λ zs. f x ∷ zs) (map_append f xs ys)
 
-pub at_next : {A : Type 0} (x : A) (xs ys : List A) (y : A) → slice_get (x ∷ (xs ++ y ∷ ys)) (length xs + 1) ≡ Some y
-at_next x [] ys y = refl
-at_next x (z ∷ zs) ys y = let n : length (z ∷ zs) + 1 ≡ suc (length zs + 1) = omega arith in ap (slice_get (x ∷ z ∷ (zs ++ y ∷ ys))) n ∙ at_next z zs ys y
-
-module _ {V : Type 0} (z : TableId) (p : Profile) (c : ℕ) (x : Pass V) (idle : IsIdleOf z p c (pass_account x)) where
+module _ {V : Type 0} (z : TableId) (p : Profile) (x : Pass V) (idle : IsIdleOf z p (pass_account x)) where
   pub its_table : x.seat.table_id ≡ z
   its_table = same_table x.seat.table_id z idle.of.name
 
@@ -136,9 +132,6 @@ module _ {V : Type 0} (z : TableId) (p : Profile) (c : ℕ) (x : Pass V) (idle :
 
   pub bare_handed : x.seat.me.1 ≡ []
   bare_handed = keys_none x.seat.me.1 (x.carried ∙ ap reverse its_held)
-
-  pub its_caller : x.seat.me.0.caller ≡ c
-  its_caller = idle.caller
 
   -- it can be taken in
   pub can_take : (v : View) → v.live ≡ true → v.caller ≡ 0 → CanTakeIn v x.seat.me.0

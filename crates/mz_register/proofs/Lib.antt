@@ -4,14 +4,19 @@ mod Rests
 mod AccountMoves
 mod SeatCalls
 mod PassLemmas
+mod ZoneLemmas
 mod OpenLemmas
 mod WordLemmas
 mod FirstLemmas
 mod MergeLemmas
+mod PassLists
 mod CountLemmas
-mod Crosses
+pub mod Crosses
 mod JoinLemmas
 mod HandInLemmas
 mod WriteLemmas
 mod FitLemmas
 mod AtEnd
+mod RecordLemmas
+mod InOrder
+mod OwnerLemmas

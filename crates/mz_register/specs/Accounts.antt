@@ -30,3 +30,11 @@ pub record FindsTaken (s : Account) (e : Exchanges) (k word : ℕ) (t : Account)
   pub other : word ≢ s.caller + 1
   pub clash : Clashes s e (lock_place k) 0 word e'
   pub same : t ≡ s
+
+-- just one exchange found the word that it expected, whatever others found
+abbrev pub WinsOne : Exchanges → Exchanges → Type 0
+WinsOne e e' = e'.wins ≡ e.wins + 1
+
+-- and there was no other exchange
+abbrev pub WinsAtOnce : Exchanges → Exchanges → Type 0
+WinsAtOnce e e' = e' ≡ record e { wins = e.wins + 1 }

@@ -6,3 +6,4 @@ pub mod Orderly
 pub mod Opened
 pub mod Merged
 pub mod HandIn
+pub mod Records

@@ -1,5 +1,5 @@
 -- What a pass keeps between its calls. This project's own.
-use Rattle.std.specs.Prelude.{◌≡◌, ℕ, ◌+◌, ◌-◌, ◌*◌, ◌^◌, ◌<◌, ◌≤◌, Bool, true, false, nat_lt, nat_le, ◌&&◌, List, [], ◌∷◌, length, drop, Option, Some, None}
+use Rattle.std.specs.Prelude.{◌≡◌, ℕ, ◌+◌, ◌-◌, ◌*◌, ◌^◌, ◌<◌, ◌≤◌, Bool, true, false, nat_lt, nat_le, ◌&&◌, not, List, [], ◌∷◌, length, drop, Option, Some, None}
 use Rattle.std.specs.List.{list_all}
 use Rattle.std.specs.Coded.{Coded-set, coded_ℕ, coded_bool, coded_list, Π_prop, le_prop}
 use Rattle.atomic_table.specs.Seated.{TableId}
@@ -13,6 +13,7 @@ use Rattle.mz_events.specs.State.{opening}
 use Rattle.mz_events.specs.Changes.{one_for}
 use Rattle.mz_events.specs.History.{AreLawful, after_all}
 use Rattle.mz_events.specs.Hands.{own}
+use Rattle.mz_events.specs.Holding.{changes_zones}
 use Rattle.mz_events.specs.Codes.{all_lawful_once}
 use Rattle.mz_book.specs.declared.light.Light.{Light}
 use Rattle.mz_book.specs.Keepers.{keeper_count}
@@ -55,6 +56,10 @@ last_own v = drop (length (own v.caller v.seen) - length v.noted) (own v.caller 
 -- the light is of a slot
 abbrev pub is_light_of : Profile → Light → Bool
 is_light_of p l = nat_lt l.block p.nano && nat_lt l.slot 1024
+
+-- none of these entries opens or shuts a zone
+abbrev pub keeps_zones : List Entry → Bool
+keeps_zones entries = list_all (λ e. not (changes_zones e.event)) entries
 
 -- The view of caller c, whose record and held keepers are these. It isn't in the middle of a hold and took in no other.
 pub record IsRested (v : View) (c : ℕ) (noted : List Entry) (held : List ℕ) : Type 0 where

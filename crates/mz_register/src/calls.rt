@@ -5,7 +5,7 @@ ghost use Rattle.mz_book.specs.Account.{StandsFor};
 ghost use Rattle.mz_book.specs.Calls.{CanHold, Gains, Holds, CanNote, Notes, CanRelease, Releases, CanSettle, Settles, CanHoldLight, HoldsLight, CanReleaseLight, ReleasesLight};
 ghost use Rattle.mz_book.specs.Exchanges.{class_place, slot_place, Clashes};
 ghost use Rattle.mz_register.specs.Passes.{IsOf};
-ghost use Rattle.mz_register.specs.Accounts.{pass_account, pass_exchanges, FindsTaken};
+ghost use Rattle.mz_register.specs.Accounts.{pass_account, pass_exchanges, WinsOne, WinsAtOnce, FindsTaken};
 
 use crate::find::find;
 use crate::pass::{Pass, Taken};
@@ -45,6 +45,7 @@ impl<V: Keep + Drop> Pass<V> {
         ensures table { self.new.seat.table_id ≡ self.old.seat.table_id }
         ensures holds { Holds (pass_account self.old) k (pass_account self.new) }
         ensures stands { StandsFor (pass_account self.new) k (V.keeping result) }
+        ensures wins { WinsOne (pass_exchanges self.old) (pass_exchanges self.new) }
     {
         of_histories();
         let keeper = register.hold(rt, &mut self.seat, self.caller, k);
@@ -58,6 +59,7 @@ impl<V: Keep + Drop> Pass<V> {
         requires can { CanHold (pass_account self.old) k }
         ensures table { self.new.seat.table_id ≡ self.old.seat.table_id }
         ensures gains { IfOk result (λ v. Gains (pass_account self.old) k (pass_account self.old).holds (pass_account self.new) × StandsFor (pass_account self.new) k (V.keeping v)) }
+        ensures wins { IfOk result (λ _. WinsAtOnce (pass_exchanges self.old) (pass_exchanges self.new)) }
         ensures taken { IfErr result (λ t. FindsTaken (pass_account self.old) (pass_exchanges self.old) k t.word (pass_account self.new) (pass_exchanges self.new)) }
     {
         of_histories();

@@ -1,9 +1,9 @@
 //! The desk, at which a pass is a book.
 ghost use Rattle.std.specs.Prelude.{◌≡◌, IfOk, IfErr};
 ghost use Rattle.mz_book.specs.Account.{StandsFor};
-ghost use Rattle.mz_book.specs.Calls.{CanHold, Gains};
+ghost use Rattle.mz_book.specs.Calls.{CanHold, Gains, Holds};
 ghost use Rattle.mz_register.specs.Passes.{IsOf};
-ghost use Rattle.mz_register.specs.Accounts.{pass_account, at_desk, pass_exchanges, FindsTaken};
+ghost use Rattle.mz_register.specs.Accounts.{pass_account, at_desk, pass_exchanges, WinsOne, WinsAtOnce, FindsTaken};
 
 use crate::pass::{Pass, Taken};
 use crate::register::Register;
@@ -32,7 +32,14 @@ impl<'a, V: Keep + Drop> Book<V> for Desk<'a, V> {
         self.pass.caller()
     }
 
-    fn hold<R: Wait>(&mut self, rt: &R, k: usize) -> V {
+    /// Takes the keeper of number `k`. Of its exchanges just one finds the word that it expects, which is the lock of `k`: no other
+    /// keeper is taken on the way.
+    fn hold<R: Wait>(&mut self, rt: &R, k: usize) -> V
+        requires { CanHold (⟦<Desk<'a, V> as Book<V>>⟧.account self.old) k }
+        ensures holds { Holds (⟦<Desk<'a, V> as Book<V>>⟧.account self.old) k (⟦<Desk<'a, V> as Book<V>>⟧.account self.new) }
+        ensures stands { StandsFor (⟦<Desk<'a, V> as Book<V>>⟧.account self.new) k (V.keeping result) }
+        ensures wins { WinsOne (⟦<Desk<'a, V> as Book<V>>⟧.exchanges self.old) (⟦<Desk<'a, V> as Book<V>>⟧.exchanges self.new) }
+    {
         self.pass.hold(rt, self.register, k)
     }
 
@@ -84,11 +91,12 @@ impl<V: Keep + Drop> Register<V> {
     }
 
     /// Takes the keeper of number `k`, which is above each one held, if its lock is free. `Taken` carries the word of the lock, which
-    /// this call found: it isn't 0, and it shows another caller. This doesn't wait, and isn't counted as a hold.
+    /// this call found: it isn't 0, and it shows another caller. The call makes one exchange. It doesn't wait, and isn't counted as a hold.
     pub fn try_hold(&self, pass: &mut Pass<V>, k: usize) -> Result<V, Taken>
         requires of { IsOf self.now.table.shared.table_id self.now.opening.profile (pass_account pass.old) }
         requires can { CanHold (pass_account pass.old) k }
         ensures gains { IfOk result (λ v. Gains (pass_account pass.old) k (pass_account pass.old).holds (pass_account pass.new) × StandsFor (pass_account pass.new) k (V.keeping v)) }
+        ensures wins { IfOk result (λ _. WinsAtOnce (pass_exchanges pass.old) (pass_exchanges pass.new)) }
         ensures taken { IfErr result (λ t. FindsTaken (pass_account pass.old) (pass_exchanges pass.old) k t.word (pass_account pass.new) (pass_exchanges pass.new)) }
     {
         pass.try_hold(self, k)

@@ -9,7 +9,7 @@ ghost use Rattle.mz_book.specs.Parts.{account_in, FitTogether};
 ghost use Rattle.mz_desk.specs.Keys.{opened_as};
 ghost use Rattle.mz_desk.specs.Ending.{TookAll};
 ghost use Rattle.mz_register.specs.Merged.{count_noted, CanWrite};
-ghost use Rattle.mz_register.specs.HandIn.{former, AreAll, AreIn, IsClosed, IsSame, HandsIn};
+ghost use Rattle.mz_register.specs.HandIn.{former, passes_of, AreAll, IsFirstAt, AreIn, IsClosed, IsSame, HandsIn};
 
 use crate::pass::Pass;
 use crate::records::{count_noted, lengthen, merge};
@@ -30,6 +30,19 @@ use std::alloc::Global;
 struct Room<V> {
     keepers: Vec<Option<V>>,
     records: Vec<Vec<Entry>>,
+}
+
+// Where the pass of caller 0 stands.
+fn first_of<V>(passes: &[Pass<V>]) -> usize
+    requires { passes_of 0 passes.now ≡ 1 }
+    ensures { IsFirstAt passes.now result }
+{
+    for (i, pass) in passes.iter().enumerate() {
+        if pass.caller == 0 {
+            return i;
+        }
+    }
+    unreachable!()
 }
 
 // Closes a table all of whose seats are in seat 0.
@@ -91,7 +104,7 @@ fn take_keepers<V: Drop>(
 }
 
 impl<V: Keep + Drop> Register<V> {
-    // Seat 0 takes in all others. Their records come with it, and the empty list of the numbers that pass 0 held.
+    // Seat 0 takes in all others. Their records come with it, and the empty list of the numbers that its pass held.
     fn join_all(
         &self,
         passes: Vec<Pass<V>>,
@@ -104,10 +117,10 @@ impl<V: Keep + Drop> Register<V> {
         seats::join_seat::<V>();
         let _keepers = self.keepers;
         let mut records = records;
+        let mut passes = passes;
+        let place = first_of(passes.as_slice());
+        let first = passes.remove(place);
         let mut rest = passes.into_iter();
-        let Some(first) = rest.next() else {
-            unreachable!()
-        };
         let (noted, held, mut seat) = first.into_record();
         records.push_reserved(noted);
         while let Some(pass) = rest.next() {
@@ -178,8 +191,8 @@ impl<V: Keep + Drop> Register<V> {
         }
     }
 
-    /// Hands all passes in, of which none holds anything, and makes the register a plain book again: its history is the former one,
-    /// followed by all records by ticket. The Err is want of memory, or of room where there are more than 2^58 entries, and gives
+    /// Hands all passes in, in any order, of which none holds anything, and makes the register a plain book again: its history is the former
+    /// one, followed by all records by ticket. The Err is want of memory, or of room where there are more than 2^58 entries, and gives
     /// both back.
     pub fn hand_in(
         self,

@@ -58,6 +58,7 @@ impl<V: Keep + Drop> Register<V> {
         requires can { CanLock seat.old.me.0 k }
         ensures table { seat.new.table_id ≡ seat.old.table_id }
         ensures gets { IfOk result (λ v. Gets V.keeping seat.old.me k v seat.new.me) }
+        ensures at_once { IfOk result (λ _. seat.new.me.0.clashes ≡ seat.old.me.0.clashes) }
         ensures misses { IfErr result (λ word. Misses seat.old.me k word seat.new.me) }
     {
         let word = self.try_lock(seat, caller, k);

@@ -10,6 +10,7 @@
 //! - `open`: a plain book is taken apart into a register and a pass for each caller.
 //! - `records`: records are put together by ticket.
 //! - `hand_in`: all passes come in, and the register is a plain book again.
+//! - `laws`: what follows for those who stand on a register.
 //! - `shared`: when a register is Send and Sync, and that a pass may move.
 //!
 //! ```text
@@ -33,6 +34,7 @@ pub mod desk;
 mod find;
 pub mod hand_in;
 mod hold;
+pub mod laws;
 pub mod open;
 pub mod pass;
 mod records;

@@ -2,7 +2,7 @@
 ghost use Rattle.std.specs.Prelude.{◌≡◌, ◌≢◌, ◌+◌, ◌-◌, ◌^◌, ◌<◌, ◌≤◌, true, length, reverse, take, drop, ◌++◌};
 ghost use Rattle.std.specs.Vec.{vec_capacity};
 ghost use Rattle.mz_book.specs.Keepers.{keeper_count};
-ghost use Rattle.mz_register.specs.Passes.{keys, bare, IsRested, IsKnowing, rested_once, knowing_once};
+ghost use Rattle.mz_register.specs.Passes.{keys, bare, keeps_zones, IsRested, IsKnowing, rested_once, knowing_once};
 
 use atomic_table::Seat;
 use mz_book::Asked;
@@ -26,6 +26,7 @@ pub struct Pass<V> {
     ghost knowing: { IsKnowing seat.me.0 } by { knowing_once seat.me.0 },
     ghost carried: { keys seat.me.1 ≡ reverse held.items },
     ghost none_inside: { bare seat.me.1 ≡ true },
+    ghost zones: { keeps_zones noted.items ≡ true },
     ghost room: { keeper_count seat.me.0.profile ≤ vec_capacity held },
     ghost within: { length noted.items ≤ limit },
     ghost limited: { limit ≤ vec_capacity noted },

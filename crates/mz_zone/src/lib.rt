@@ -18,6 +18,7 @@
 //! - `Zone`: the calls. `zone` has those that make blocks, `free` those that end them, `realloc` the one that changes a size, `batch`
 //!   those on many blocks.
 //! - `fault`: why a call is refused, and its number.
+//! - `shared`: that a zone may be shared between threads, and that blocks may move.
 //! - `nano`: how a slot becomes a block, and how that ends.
 //!
 //! Nothing is held between two calls. To the crates above, this one promises that a call adds to the record just the entries that `mz_record`
@@ -33,6 +34,7 @@ mod free;
 mod laws;
 mod nano;
 mod realloc;
+pub mod shared;
 mod zone;
 
 pub use at::At;

@@ -60,3 +60,6 @@ returns-clause-stands g c =
     let p = c.args.self.now in
     let x = c.hold-keeper.ensures.gets in
     subst (λ (z : View). StandsFor (view_account z (table_numbers p.seat.table_id) 0 0 0 None) c.args.k (g.V.Keep.keeping c.hold-keeper.result)) (sym x.view) x.stands
+
+pub returns-clause-wins : goal.returns-clause-wins
+returns-clause-wins g c = ap (λ (z : View). length z.wins) c.hold-keeper.ensures.gets.view ∙ omega arith

@@ -1,4 +1,4 @@
-use Rattle.std.proofs.Common.{ℕ, ◌-◌, List, [], ◌∷◌, ◌++◌, length, reverse, None, arith, refl, sym, ap, ◌∙◌, subst}
+use Rattle.std.proofs.Common.{◌≡◌, ℕ, ◌+◌, ◌-◌, List, [], ◌∷◌, ◌++◌, length, reverse, None, arith, refl, sym, ap, ◌∙◌, subst}
 use Rattle.mz_book.specs.Keepers.{keeper_count}
 use Rattle.mz_desk.specs.declared.view.View.{View}
 use Rattle.mz_desk.specs.Views.{view_account}
@@ -56,6 +56,13 @@ returns-in-Ok-clause-gains g c =
       gains c.of_histories.ensures (pass_account p) _ c.args.k _ x.others refl x.away (λ i. view_account (x.view i) (table_numbers (c.try_hold_once.ensures.table i)) (p.limit - length p.noted.items) p.holds p.founds p.found) x.calm,
       subst (λ (z : View). StandsFor (view_account z (table_numbers p.seat.table_id) 0 0 0 None) c.args.k (g.V.Keep.keeping c.in-Ok.keeper)) (sym x.view) x.stands,
     )
+
+pub returns-in-Ok-clause-wins : goal.returns-in-Ok-clause-wins
+returns-in-Ok-clause-wins g c =
+    let v = c.args.self.now.seat.me.0 in
+    let x = c.in-Ok.ensures.gets in
+    let w : length c.try_hold_once.new.seat.me.0.wins ≡ length v.wins + 1 = ap (λ (z : View). length z.wins) x.view ∙ omega arith in
+    λ i. record { wins = w i; clashes = c.in-Ok.ensures.at_once i }
 
 pub returns-in-Err-clause-taken : goal.returns-in-Err-clause-taken
 returns-in-Err-clause-taken g c =

@@ -1,4 +1,4 @@
-use Rattle.std.proofs.Common.{◌≡◌, ◌⊎◌, ⊎_elim, inl, inr, ℕ, ◌+◌, ◌<◌, true, List, [], ◌++◌, length, get_or, Some, Vec, arith, sym, ap, ◌∙◌, subst, length-append}
+use Rattle.std.proofs.Common.{◌≡◌, ◌⊎◌, ⊎_elim, inl, inr, ℕ, ◌+◌, ◌<◌, true, List, [], ◌∷◌, ◌++◌, length, get_or, Some, Vec, arith, sym, ap, ◌∙◌, subst, length-append}
 use Rattle.std.specs.Prelude.{slice_get}
 use Rattle.std.specs.List.{All}
 use Rattle.std.specs.Vec.{vec_capacity}
@@ -29,8 +29,8 @@ use Rattle.mz_register.specs.Merged.{CanWrite}
 use Rattle.mz_register.specs.HandIn.{former, IsIdleOf, IsPassOf, IsKnownToOne, HandsIn}
 use Rattle.mz_register.proofs.CountLemmas.{all_noted}
 use Rattle.mz_register.proofs.JoinLemmas.{its_held}
-use Rattle.mz_register.proofs.HandInLemmas.{some_below, known_to, all_in, each_end, each_noted}
-use Rattle.mz_register.proofs.WriteLemmas.{can_write}
+use Rattle.mz_register.proofs.HandInLemmas.{some_below, known_to, all_in, idle0, one_moved, each_end, each_noted, moved_noted}
+use Rattle.mz_register.proofs.WriteLemmas.{can_write, steady_all}
 use Rattle.mz_register.proofs.FitLemmas.{Comes, fits, none_held, spare_none}
 use Rattle.mz_register.proofs.AtEnd.{last, at_end}
 use Rattle.mz_register.proofs.register.Register.into_parts.Given as given
@@ -46,13 +46,16 @@ write-requires-clause-can g c =
     let r = c.args.self in
     let p = r.opening.profile in
     let passes = c.args.passes.items in
-    let i = c.join_all-seat.result in
-    let e = at_end g.V.Keep.keeping r passes i.0 i.1.items i.2 c.join_all-seat.ensures c.close-closed.result c.close-closed.ensures in
-    let noted = each_noted r.table.shared.table_id p passes c.requires.all i.0 i.1.items i.2 c.join_all-seat.ensures g.V.Keep.keeping (opened_as g.V.Keep.keeping r.opening) (slots_items c.close-closed.result.words) c.close-closed.ensures.homes e in
+    let t = c.join_all-seat.result in
+    let i = c.join_all-seat.ensures in
+    let e = at_end g.V.Keep.keeping r passes t.0 t.1.items t.2 i c.close-closed.result c.close-closed.ensures in
+    let noted = each_noted r.table.shared.table_id p passes c.requires.all t.0 t.1.items t.2 i g.V.Keep.keeping (opened_as g.V.Keep.keeping r.opening) (slots_items c.close-closed.result.words) c.close-closed.ensures.homes e in
+    let moved = moved_noted r.table.shared.table_id p passes c.requires.all t.0 t.1.items t.2 i g.V.Keep.keeping (opened_as g.V.Keep.keeping r.opening) (slots_items c.close-closed.result.words) c.close-closed.ensures.homes e in
+    let in_front = one_moved r.table.shared.table_id p passes c.requires.all t.0 t.1.items t.2 i in
     let goes = c.owners_after_entries.ensures.owners p r.opening.history.items e.later r.opening.quanta.items e.lawful r.quantum_count e.opened e.handed in (
       e.later,
-      subst (CanWrite r.opening.history.items r.opening.quanta.items e.later) (sym (c.as_slice.ensures.value)) (can_write p r.opening.history.items e.later r.opening.quanta.items passes i.1.items r.limits c.requires.all.count c.join_all-seat.ensures.records (λ j d at. c.tickets_are_indices.ensures.index p _ (r.opening.history.items ++ e.later) e.lawful j d at) e.below noted goes),
-      sym (all_noted passes e.later (subst (λ (n : ℕ). All (λ (d : Entry). d.caller < n) e.later) (sym c.requires.all.count) e.below) noted) ∙ sym c.requires.count,
+      subst (CanWrite r.opening.history.items r.opening.quanta.items e.later) (sym (c.as_slice.ensures.value)) (can_write p r.opening.history.items e.later r.opening.quanta.items (i.first ∷ (i.front ++ i.back)) c.join_all-seat.result.1.items r.limits in_front i.records (λ j d at. c.tickets_are_indices.ensures.index p _ (r.opening.history.items ++ e.later) e.lawful j d at) e.below moved goes),
+      sym (all_noted p.callers passes e.later c.requires.all.one e.below noted) ∙ sym c.requires.count,
     )
 
 module _ (g : given.Over) (c : goal.After-drop-records g) where
@@ -90,14 +93,16 @@ module _ (g : given.Over) (c : goal.After-drop-records g) where
   goes = c.owners_after_entries.ensures.owners p before e.later quanta e.lawful r.quantum_count e.opened e.handed
 
   -- what each pass noted
-  noted : (k : ℕ) (x : Pass g.row.V.Denot) → slice_get passes k ≡ Some x → x.noted.items ≡ own k e.later
+  noted : (k : ℕ) (x : Pass g.row.V.Denot) → slice_get passes k ≡ Some x → x.noted.items ≡ own x.seat.me.0.caller e.later
   noted = each_noted r.table.shared.table_id p passes c.requires.all c.join_all-seat.result.0 c.join_all-seat.result.1.items c.join_all-seat.result.2 c.join_all-seat.ensures keeping (opened_as keeping r.opening) words homes e
 
   can : CanWrite before quanta e.later c.as_slice.result.now
-  can = subst (CanWrite before quanta e.later) (sym c.as_slice.ensures.value) (can_write p before e.later quanta passes c.join_all-seat.result.1.items r.limits c.requires.all.count c.join_all-seat.ensures.records (λ j d at. c.tickets_are_indices.ensures.index p _ (before ++ e.later) e.lawful j d at) e.below noted goes)
+  can = subst (CanWrite before quanta e.later) (sym c.as_slice.ensures.value) (can_write p before e.later quanta (c.join_all-seat.ensures.first ∷ (c.join_all-seat.ensures.front ++ c.join_all-seat.ensures.back)) c.join_all-seat.result.1.items r.limits (one_moved r.table.shared.table_id p passes c.requires.all c.join_all-seat.result.0 c.join_all-seat.result.1.items c.join_all-seat.result.2 c.join_all-seat.ensures) c.join_all-seat.ensures.records
+      (λ j d at. c.tickets_are_indices.ensures.index p _ (before ++ e.later) e.lawful j d at) e.below
+      (moved_noted r.table.shared.table_id p passes c.requires.all c.join_all-seat.result.0 c.join_all-seat.result.1.items c.join_all-seat.result.2 c.join_all-seat.ensures keeping (opened_as keeping r.opening) words homes e) goes)
 
   long : length e.later ≡ c.args.more
-  long = sym (all_noted passes e.later (subst (λ (n : ℕ). All (λ (d : Entry). d.caller < n) e.later) (sym c.requires.all.count) e.below) noted) ∙ sym c.requires.count
+  long = sym (all_noted p.callers passes e.later c.requires.all.one e.below noted) ∙ sym c.requires.count
 
   abbrev x : Parts g.row.V.Denot
   x = record {
@@ -119,8 +124,8 @@ module _ (g : given.Over) (c : goal.After-drop-records g) where
   written : (x.history.items ≡ before ++ e.later) × (x.quanta.items ≡ quanta_since quanta e.later)
   written = c.write.ensures.written e.later can long
 
-  idle0 : IsIdleOf r.table.shared.table_id p 0 (pass_account c.join_all-seat.ensures.first)
-  idle0 = c.requires.all.each 0 c.join_all-seat.ensures.first (ap (λ ps. slice_get ps 0) c.join_all-seat.ensures.all)
+  first_idle : IsIdleOf r.table.shared.table_id p (pass_account c.join_all-seat.ensures.first)
+  first_idle = idle0 r.table.shared.table_id p passes c.requires.all c.join_all-seat.result.0 c.join_all-seat.result.1.items c.join_all-seat.result.2 c.join_all-seat.ensures
 
   came : Comes keeping x before quanta r.opening.classes.items end words homes e
   came = record {
@@ -134,8 +139,8 @@ module _ (g : given.Over) (c : goal.After-drop-records g) where
     limit = c.len.ensures ∙ c.write.new.history.ok.0;
     limited = let n = ap length written.0 in let a = length-append before e.later in let l = long in let k = c.write.ensures.capacity in let h = c.requires.history in omega (arith, c.len.ensures, c.write.new.history.ok.0);
     few = let n = ap length written.0 in let a = length-append before e.later in let l = long in let h = c.requires.few in omega (arith, c.len.ensures, c.write.new.history.ok.0);
-    held = ap (λ (v : Vec ℕ Global). v.items) c.join_all-seat.ensures.held_is ∙ its_held r.table.shared.table_id p 0 c.join_all-seat.ensures.first idle0;
-    held_room = let k = c.join_all-seat.ensures.first.room in let q = ap keeper_count idle0.of.profile in let h = ap (λ (v : Vec ℕ Global). vec_capacity v) c.join_all-seat.ensures.held_is in omega arith;
+    held = ap (λ (v : Vec ℕ Global). v.items) c.join_all-seat.ensures.held_is ∙ its_held r.table.shared.table_id p c.join_all-seat.ensures.first first_idle;
+    held_room = let k = c.join_all-seat.ensures.first.room in let q = ap keeper_count first_idle.of.profile in let h = ap (λ (v : Vec ℕ Global). vec_capacity v) c.join_all-seat.ensures.held_is in omega arith;
     keepers = let l = c.take_keepers.ensures.len in let z = c.close-closed.ensures.slots in let s = r.slots in omega (arith, c.take_keepers.result.ok.0);
     same = λ k y h. ap (λ ks. get_elem? ks k) c.take_keepers.ensures.items ∙ c.close-closed.ensures.same k y h;
     class_count = let l = c.read_words.ensures.len in let n = r.class_count in omega (arith, c.read_words.new.row.ok.0, r.opening.classes.ok.0);
@@ -151,15 +156,14 @@ module _ (g : given.Over) (c : goal.After-drop-records g) where
   abbrev t : Account
   t = account_in keeping x
 
-  each : (k : ℕ) (y : Pass g.row.V.Denot) → slice_get passes k ≡ Some y → IsPassOf (former keeping r) e.later t k (pass_account y)
+  each : (k : ℕ) (y : Pass g.row.V.Denot) → slice_get passes k ≡ Some y → IsPassOf (former keeping r) e.later t (pass_account y)
   each k y at =
       let d = each_end r.table.shared.table_id p passes c.requires.all c.join_all-seat.result.0 c.join_all-seat.result.1.items c.join_all-seat.result.2 c.join_all-seat.ensures keeping (opened_as keeping r.opening) words homes e k y at in
-      let o : y.seat.me.0.caller ≡ k = (c.requires.all.each k y at).caller in
       record {
         rest = d.rest;
         seen = d.seen;
         noted = d.noted_is;
-        hand = ap (hand_among k) told_now ∙ (c.owners_after_entries.ensures.hands k (pairs_told quanta before) e.later ∙ (sym d.hand ∙ ap (λ (n : ℕ). hand_among n y.seat.me.0.pairs) (sym o)));
+        hand = ap (hand_among y.seat.me.0.caller) told_now ∙ (c.owners_after_entries.ensures.hands y.seat.me.0.caller (pairs_told quanta before) e.later ∙ sym d.hand);
         settled = λ b n.
             let s = some_below y.seat.me.0.settled b n in
             let q = y.rested.sized ∙ ap (λ (u : Profile). u.nano) (c.requires.all.each k y at).of.profile in
@@ -189,6 +193,8 @@ module _ (g : given.Over) (c : goal.After-drop-records g) where
     };
     lawful = e.lawful;
     below = e.below;
+    zones = steady_all p.callers e.later passes c.requires.all.one e.below noted;
+    pairs = told_now;
     classes = λ b n.
         let s = some_below r.opening.classes.items b n in
         let q = r.class_count in

@@ -11,8 +11,12 @@ decreases-loop-pass g l = into_iter_len l.rest
 abbrev pub invariant-loop-pass : goal.invariant-loop-pass
 invariant-loop-pass g l = record {
   first : Pass g.row.V.Denot;
+  front : List (Pass g.row.V.Denot);
+  back : List (Pass g.row.V.Denot);
   done : List (Pass g.row.V.Denot);
-  all : l.fn.passes.items ≡ first ∷ (done ++ into_iter_items l.rest);
+  all : l.fn.passes.items ≡ front ++ first ∷ back;
+  caller : first.seat.me.0.caller ≡ 0;
+  others : front ++ back ≡ done ++ into_iter_items l.rest;
   left : into_iter_len l.rest ≡ length (into_iter_items l.rest);
   table : l.seat.table_id ≡ l.self.table.shared.table_id;
   view : l.seat.me.0 ≡ joined_through first.seat.me.0 (views_of done);

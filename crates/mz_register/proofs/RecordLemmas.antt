@@ -60,7 +60,7 @@ not_there : (c n : ℕ) (e : Entry) (es : List Entry) → e.caller < c → recor
 not_there c zero e es l = refl
 not_there c (suc n) e es l =
     ap (λ (xs : List Entry). xs ++ records_from (c + 1) n (e ∷ es)) (own_else c e es (λ i. omega arith))
-        ∙ ap (λ (xs : List Entry). own c es ++ xs) (not_there (c + 1) n e es (omega arith))
+    ∙ ap (λ (xs : List Entry). own c es ++ xs) (not_there (c + 1) n e es (omega arith))
 
 record Stands (c n : ℕ) (e : Entry) (es : List Entry) : Type 0 where
   pub front : List Entry
@@ -145,4 +145,4 @@ unfolding by_ticket
 sorted_join [] ys h = refl
 sorted_join (x ∷ xs) ys h =
     ap (insert_by (λ (d : Entry). d.ticket) x) (sorted_join xs ys (All-tail (λ (d : Entry). All (λ (y : Entry). d.ticket < y.ticket) ys) x xs h))
-        ∙ insert_left x (by_ticket xs) (by_ticket ys) (above_sorted x.ticket ys (above_all x.ticket ys (All-head (λ (d : Entry). All (λ (y : Entry). d.ticket < y.ticket) ys) x xs h)))
+    ∙ insert_left x (by_ticket xs) (by_ticket ys) (above_sorted x.ticket ys (above_all x.ticket ys (All-head (λ (d : Entry). All (λ (y : Entry). d.ticket < y.ticket) ys) x xs h)))

@@ -17,5 +17,5 @@ returns-clause-owners g c s t passes h below = subst (All (λ (x : Pair). x.call
 pub returns-clause-zones : goal.returns-clause-zones
 returns-clause-zones g c s t passes h z =
     ap (λ (u : Account). is_open (state_of u) z) h.after
-        ∙ (ap (λ u. is_open u z) (c.states_split.ensures.joined s.profile opening s.seen h.later)
-        ∙ zones_since c.zones_after_an_event.ensures.others s.profile (state_of s) h.later h.zones z)
+    ∙ (ap (λ u. is_open u z) (c.states_split.ensures.joined s.profile opening s.seen h.later)
+    ∙ zones_since c.zones_after_an_event.ensures.others s.profile (state_of s) h.later h.zones z)

@@ -2,6 +2,7 @@
 use Rattle.std.specs.Prelude.{◌≡◌, ℕ, ◌-◌, ◌==◌, ◌<◌, ◌≤◌, true, false, List, [], ◌∷◌, ◌++◌, length, slice_set, Option, Some, None, if◌then◌else◌}
 use Rattle.std.specs.List.{All}
 use Rattle.std.specs.Option.{MatchOption}
+use Rattle.atomic_table.specs.Seated.{TableId}
 use Rattle.mz_base.specs.declared.profile.Profile.{Profile}
 use Rattle.mz_base.specs.Site.{Site}
 use Rattle.mz_events.specs.declared.entry.Entry.{Entry}
@@ -19,7 +20,6 @@ use Rattle.mz_register.specs.declared.pass.Pass.{Pass}
 use Rattle.mz_register.specs.declared.register.Register.{Register}
 use Rattle.mz_register.specs.Passes.{IsOf}
 use Rattle.mz_register.specs.Accounts.{pass_account}
-use Rattle.mz_register.specs.HandIn.{IsIdleOf}
 
 -- two pages of nano behind two others; two callers; zone 0 alone, with one magazine of each range
 abbrev pub toy_profile : Profile
@@ -153,9 +153,15 @@ profile_of r = r.opening.profile
 abbrev pub BelongsTo : {V : Type 0} → Register V → Pass V → Type 0
 BelongsTo r x = IsOf r.table.shared.table_id r.opening.profile (pass_account x)
 
+-- the account of the pass of caller c, which holds nothing
+pub record IsIdleAs (z : TableId) (p : Profile) (c : ℕ) (s : Account) : Type 0 where
+  pub of : IsOf z p s
+  pub caller : s.caller ≡ c
+  pub idle : HoldsNothing s
+
 -- the pass is that of caller c at the register, and holds nothing
 abbrev pub SitsAt : {V : Type 0} → Register V → ℕ → Pass V → Type 0
-SitsAt r c x = IsIdleOf r.table.shared.table_id r.opening.profile c (pass_account x)
+SitsAt r c x = IsIdleAs r.table.shared.table_id r.opening.profile c (pass_account x)
 
 -- and it has seen nothing yet, and has room for n entries
 pub record IsReady {V : Type 0} (n : ℕ) (r : Register V) (c : ℕ) (x : Pass V) : Type 0 where

@@ -10,6 +10,7 @@ use Rattle.mz_events.specs.declared.entry.Entry.{Entry}
 use Rattle.mz_events.specs.Hands.{own, hand_after, hand_through}
 use Rattle.mz_record.specs.Dropped.{IsNotOfZone}
 use Rattle.mz_record.specs.Resized.{IsMoved, moved, not_moved}
+use Rattle.mz_rack.specs.Resizing.{resize_at}
 use Rattle.mz_book.specs.Account.{hand}
 use Rattle.mz_nano.specs.declared.view.Held.{Held}
 use Rattle.mz_nano.specs.SeatLists.{first_of}
@@ -49,7 +50,7 @@ back_from_move laws v w z n b e m h = record {
   slot = slot_as_before v.nano w.nano b.base b.slot m.goes.nano m.hand h.slot;
 }
   where
-    by_way : IsMoved v.book.profile w.book.seen m.t m.t v.book.caller z (block_of b) n m.mine None → hand_through (hand v.book) m.mine ≡ hand v.book
+    by_way : IsMoved v.book.profile w.book.seen (resize_at v.book m.t z (block_of b) n) m.mine None → hand_through (hand v.book) m.mine ≡ hand v.book
     by_way (moved c news olds moves split serves drops got) = absurd (none_some got)
       where
         none_some : ◌≡◌ {A = Option Block} None (Some c) → ⊥
